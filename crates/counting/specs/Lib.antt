@@ -1,0 +1,2 @@
+-- Sums of numbers.
+pub mod Sum

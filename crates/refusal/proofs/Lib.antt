@@ -1,0 +1,3 @@
+-- Laws of the numbers and of the order of refusals, which every other crate cites.
+pub mod Order
+pub mod Named

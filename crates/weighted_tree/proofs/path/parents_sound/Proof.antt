@@ -1,0 +1,48 @@
+-- `path::parents_sound` meets its contract. The loop's invariant: the parents of the cell are sound if those of i are. Assumes nothing.
+use Prim.Native.Nat.{_≤_}
+use native.Mathlib.Omega.{arith}
+use mathlib.Core.Path.{_≡_, refl, sym, ap, _∙_}
+use borrow.Author.Tests.{not-true, not-false}
+use Rattle.weighted_tree.specs.Path.{parents, soundAll}
+use Rattle.weighted_tree.proofs.Climb.{parents-up, parents-top, sound-cons, sound-stop, sound-none}
+use Rattle.weighted_tree.proofs.path.parents_sound.Statement.{statement}
+use Rattle.weighted_tree.proofs.path.parents_sound.Tie as tie
+
+abbrev Inv-loop : tie.InvT-loop
+Inv-loop store count index i₀ i =
+    (i ≤ 4096) × (soundAll store count (parents index) ≡ soundAll store count (parents i))
+
+abbrev μ-loop : tie.MeasureT-loop
+μ-loop store count index i₀ i = i
+
+returns : tie.Need-returns Inv-loop μ-loop
+returns c =
+    sym
+    (c .before .before .before .loop .inv .1
+    ∙ ap (soundAll _ _) (parents-up _ (c .before .before .loop-test .taken))
+    ∙ sound-stop _ _ _ _ (sym (c .before .sound .ensures) ∙ not-true _ (c .if1 .taken)))
+
+loop-again : tie.Need-loop-again Inv-loop μ-loop
+loop-again c = (
+  omega arith,
+  c .before .before .before .loop .inv .1
+      ∙ ap (soundAll _ _) (parents-up _ (c .before .before .loop-test .taken))
+      ∙ sound-cons _ _ _ _ (sym (c .before .sound .ensures) ∙ not-false _ (c .if1 .left)),
+)
+
+returns-2 : tie.Need-returns-2 Inv-loop μ-loop
+returns-2 c = sym (c .before .loop .inv .1 ∙ sound-none _ _ _ (parents-top _ (c .loop-test .left)))
+
+pub parents-sound-spec : {M : Type 1} → statement M
+parents-sound-spec =
+    tie.close
+    (tie.spec
+    Inv-loop
+    μ-loop
+    (λ c. (omega arith, refl))
+    (λ c. omega arith)
+    (λ c κs. omega arith)
+    returns
+    (λ c. omega arith)
+    loop-again
+    returns-2)

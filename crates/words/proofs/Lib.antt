@@ -1,0 +1,2 @@
+-- Laws of the first accepted word.
+pub mod Place

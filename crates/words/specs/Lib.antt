@@ -1,0 +1,2 @@
+-- What a pool of words gives.
+pub mod Below

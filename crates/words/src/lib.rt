@@ -1,0 +1,38 @@
+// Numbers from the words of a lent pool.
+ghost use mathlib.Core.Path.{_≡_};
+ghost use Prim.Native.Nat.{_<_, _^_, _%_};
+ghost use Rattle.words.specs.Below as below;
+
+// A number below a total, with the place of the word that gave it, counted from one.
+pub enum Taken {
+    Target(u64, usize),
+    Nothing,
+}
+
+// 2^64 modulo the total, in u64: the total taken from zero wraps to 2^64 - total.
+fn spill(total: u64) -> u64
+    requires { ⌜ 0 < total ⌝ }
+    ensures { λ r. ⌜ r ≡ 2 ^ 64 % total ⌝ }
+{
+    std::num::wrapping_sub_u64(0, total) % total
+}
+
+// The number below the total that the pool's first accepted word gives. Below 0 there is none.
+pub fn number_below(pool: &[u64], total: u64) -> Taken
+    ensures { λ r. ⌜ below.Promise (now (pool .entry)) total r ⌝ }
+{
+    if total == 0 {
+        return Taken::Nothing;
+    }
+    // The last accepted word, and not the first refused one, which is 2^64 where the remainder is 0.
+    let top = 18446744073709551615 - spill(total);
+    let mut i = 0;
+    while i < pool.len() {
+        let word = pool[i];
+        if word <= top {
+            return Taken::Target(word % total, i + 1);
+        }
+        i = i + 1;
+    }
+    Taken::Nothing
+}
