@@ -1,18 +1,23 @@
 -- No two refusals have one number, since each can be had back from its number; and an answer that can be had back from what it tells is
 -- determined by it. Assumes nothing.
 use Prim.Native.Nat.{ℕ, _-_}
-use mathlib.Core.Bool.{true, false}
 use mathlib.Core.Path.{_≡_, refl, sym, ap, _∙_}
 use mathlib.Core.List.{List, [], _∷_}
 use lib.ListN.{getD}
-use mathlib.Core.Bool.{Bool}
+use mathlib.Core.Bool.{Bool, true, false}
 use Rattle.refusal.specs.Number.{number}
 use Rattle.refusal.specs.Outcome.{Outcome, gave, refused}
-use Rattle.refusal.specs.Answers.{saidTells, drawnTells}
+use Rattle.refusal.specs.Answers.{saidTells, countedTells, weighedTells, poppedTells, drawnTells}
 use Rattle.refusal.specs.declared.Refusal.{Refusal}
 use Rattle.refusal.specs.declared.Refusal.the-variants.{InvalidInput, InvalidWeight, InsufficientNonZero, Overflow, ProbabilityTooSmall, ProbabilityTooLarge, BadCount, BadIndex, BadTarget, Full, Empty, OutOfWords, Damaged, BadLength, TooManyTrials, NeedsBtpe, NeedsPoisson}
 use Rattle.refusal.specs.declared.Said.{Said}
 use Rattle.refusal.specs.declared.Said.the-variants as said
+use Rattle.refusal.specs.declared.Counted.{Counted}
+use Rattle.refusal.specs.declared.Counted.the-variants as counted
+use Rattle.refusal.specs.declared.Weighed.{Weighed}
+use Rattle.refusal.specs.declared.Weighed.the-variants as weighed
+use Rattle.refusal.specs.declared.Popped.{Popped}
+use Rattle.refusal.specs.declared.Popped.the-variants as popped
 use Rattle.refusal.specs.declared.Drawn.{Drawn}
 use Rattle.refusal.specs.declared.Drawn.the-variants as drawn
 use Rattle.refusal.specs.declared.Drawing.{Drawing}
@@ -50,7 +55,7 @@ number-injective a b e = sym (named-number a) ∙ ap named e ∙ named-number b
 pub determined : {A B : Type 0} (tells : A → Outcome B) (back : Outcome B → A) → ((a : A) → back (tells a) ≡ a) → {o : Outcome B} (a b : A) → tells a ≡ o → tells b ≡ o → a ≡ b
 determined tells back h a b p q = sym (h a) ∙ ap back (p ∙ sym q) ∙ h b
 
--- ---- the shared answers
+-- ---- the answers
 abbrev saidBack : Outcome Bool → Said
 saidBack (gave true) = said.Yes
 saidBack (gave false) = said.No
@@ -63,6 +68,39 @@ said-back (said.Refused r) = ap said.Refused (named-number r)
 
 pub said-determined : {o : Outcome Bool} (a b : Said) → saidTells a ≡ o → saidTells b ≡ o → a ≡ b
 said-determined = determined saidTells saidBack said-back
+
+abbrev countedBack : Outcome ℕ → Counted
+countedBack (gave n) = counted.Count n
+countedBack (refused k) = counted.Refused (named k)
+
+counted-back : (a : Counted) → countedBack (countedTells a) ≡ a
+counted-back (counted.Count n) = refl
+counted-back (counted.Refused r) = ap counted.Refused (named-number r)
+
+pub counted-determined : {o : Outcome ℕ} (a b : Counted) → countedTells a ≡ o → countedTells b ≡ o → a ≡ b
+counted-determined = determined countedTells countedBack counted-back
+
+abbrev weighedBack : Outcome ℕ → Weighed
+weighedBack (gave w) = weighed.Weight w
+weighedBack (refused k) = weighed.Refused (named k)
+
+weighed-back : (a : Weighed) → weighedBack (weighedTells a) ≡ a
+weighed-back (weighed.Weight w) = refl
+weighed-back (weighed.Refused r) = ap weighed.Refused (named-number r)
+
+pub weighed-determined : {o : Outcome ℕ} (a b : Weighed) → weighedTells a ≡ o → weighedTells b ≡ o → a ≡ b
+weighed-determined = determined weighedTells weighedBack weighed-back
+
+abbrev poppedBack : Outcome (ℕ × ℕ) → Popped
+poppedBack (gave (w, n)) = popped.Weight w n
+poppedBack (refused k) = popped.Refused (named k)
+
+popped-back : (a : Popped) → poppedBack (poppedTells a) ≡ a
+popped-back (popped.Weight w n) = refl
+popped-back (popped.Refused r) = ap popped.Refused (named-number r)
+
+pub popped-determined : {o : Outcome (ℕ × ℕ)} (a b : Popped) → poppedTells a ≡ o → poppedTells b ≡ o → a ≡ b
+popped-determined = determined poppedTells poppedBack popped-back
 
 abbrev drawnBack : Outcome ℕ → Drawn
 drawnBack (gave i) = drawn.Index i

@@ -2,7 +2,7 @@
 -- that the order does not list is never given. By going through the list; a number stands in it once. Assumes nothing.
 use Prim.Native.Nat.{ℕ}
 use mathlib.Core.Bool.{Bool, true, false, cond, not, _&&_}
-use mathlib.Core.Path.{_≡_, refl, sym, ap}
+use mathlib.Core.Path.{_≡_, refl, sym, ap, _∙_}
 use mathlib.Core.List.{List, [], _∷_}
 use mathlib.Core.Logic.{_↔_}
 use native.Mathlib.Omega.{arith}
@@ -54,6 +54,27 @@ pub gives : {A : Type 0} (rs : List (ℕ × Bool)) (v : A) → (inOrder rs (gave
 gives [] v = (λ e. tt, λ n. refl)
 gives ((j, true) ∷ rs) v = (λ e. absurd (given-not-refused v j (sym e)), λ n. let q : _≡_ {A = Bool} true false = n .0 in cc)
 gives ((j, false) ∷ rs) v = (λ e. (refl, gives rs v .0 e), λ n. gives rs v .1 (n .1))
+
+-- no test holds and the value is given, or some number is
+pub data Ends {A : Type 0} (rs : List (ℕ × Bool)) (v : A) : Type 0 where
+  ends-given : None rs → inOrder rs (gave v) ≡ gave v → Ends rs v
+  ends-refused : (k : ℕ) → inOrder rs (gave v) ≡ refused k → Ends rs v
+
+pub ends : {A : Type 0} (rs : List (ℕ × Bool)) (v : A) → Ends rs v
+ends [] v = ends-given tt refl
+ends ((j, true) ∷ rs) v = ends-refused j refl
+ends ((j, false) ∷ rs) v = go (ends rs v)
+  where
+    go : Ends rs v → Ends ((j, false) ∷ rs) v
+    go (ends-given n e) = ends-given (refl, n) e
+    go (ends-refused k e) = ends-refused k e
+
+pub given-means : {A : Type 0} (rs : List (ℕ × Bool)) (v u : A) → inOrder rs (gave v) ≡ gave u → None rs × (v ≡ u)
+given-means rs v u e = go (ends rs v)
+  where
+    go : Ends rs v → None rs × (v ≡ u)
+    go (ends-given n q) = (n, given-same v u (sym q ∙ e))
+    go (ends-refused k q) = absurd (given-not-refused u k (sym e ∙ q))
 
 -- a call that is refused, and one that is not: what it comes to, and what it leaves
 pub kept : {A B : Type 0} (rs : List (ℕ × Bool)) (v : A) (changed found : B) (k : ℕ) → once k rs ≡ true → Exactly k rs → (refused k ≡ inOrder rs (gave v)) × (found ≡ leaves (inOrder rs (gave v)) changed found)

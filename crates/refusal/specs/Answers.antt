@@ -1,4 +1,4 @@
--- What the shared answers tell: the value, or the number of the refusal. And every answer as three numbers.
+-- What the answers tell: the values, or the number of the refusal. And every answer as three numbers.
 use Prim.Native.Nat.{ℕ}
 use mathlib.Core.Bool.{Bool, true, false, cond}
 use mathlib.Core.Path.{_≡_}
@@ -7,6 +7,12 @@ use Rattle.refusal.specs.Outcome.{Outcome, gave, refused, consumed}
 use Rattle.refusal.specs.declared.Numbers.{Numbers}
 use Rattle.refusal.specs.declared.Said.{Said}
 use Rattle.refusal.specs.declared.Said.the-variants as said
+use Rattle.refusal.specs.declared.Counted.{Counted}
+use Rattle.refusal.specs.declared.Counted.the-variants as counted
+use Rattle.refusal.specs.declared.Weighed.{Weighed}
+use Rattle.refusal.specs.declared.Weighed.the-variants as weighed
+use Rattle.refusal.specs.declared.Popped.{Popped}
+use Rattle.refusal.specs.declared.Popped.the-variants as popped
 use Rattle.refusal.specs.declared.Drawn.{Drawn}
 use Rattle.refusal.specs.declared.Drawn.the-variants as drawn
 use Rattle.refusal.specs.declared.Drawing.{Drawing}
@@ -15,6 +21,18 @@ abbrev pub saidTells : Said → Outcome Bool
 saidTells said.Yes = gave true
 saidTells said.No = gave false
 saidTells (said.Refused r) = refused (number r)
+
+abbrev pub countedTells : Counted → Outcome ℕ
+countedTells (counted.Count n) = gave n
+countedTells (counted.Refused r) = refused (number r)
+
+abbrev pub weighedTells : Weighed → Outcome ℕ
+weighedTells (weighed.Weight w) = gave w
+weighedTells (weighed.Refused r) = refused (number r)
+
+abbrev pub poppedTells : Popped → Outcome (ℕ × ℕ)
+poppedTells (popped.Weight w n) = gave (w, n)
+poppedTells (popped.Refused r) = refused (number r)
 
 abbrev pub drawnTells : Drawn → Outcome ℕ
 drawnTells (drawn.Index i) = gave i

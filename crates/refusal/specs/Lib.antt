@@ -1,4 +1,4 @@
--- The numbers of the refusals, what an answer tells, and the answers that several libraries share.
+-- The numbers of the refusals, the order of a call's refusals, and what the answers tell.
 pub mod Number
 pub mod Outcome
 pub mod Answers

@@ -1,4 +1,4 @@
-// Why a call is refused, and the answers that several libraries share.
+// Why a call is refused, and the answers of the calls: each is what a call gives, or a refusal.
 ghost use mathlib.Core.Path.{_≡_};
 ghost use Rattle.refusal.specs.Number.{number};
 ghost use Rattle.refusal.specs.Answers as answers;
@@ -94,6 +94,57 @@ impl Said {
             Said::Yes => Numbers::given(1, 0),
             Said::No => Numbers::given(0, 0),
             Said::Refused(r) => Numbers::refused(r),
+        }
+    }
+}
+
+// The count that the tree has after the call.
+pub enum Counted {
+    Count(usize),
+    Refused(Refusal),
+}
+
+impl Counted {
+    pub fn numbers(self) -> Numbers
+        ensures { λ r. ⌜ r ≡ answers.inNumbers answers.alone (answers.countedTells self) ⌝ }
+    {
+        match self {
+            Counted::Count(n) => Numbers::given(n as u64, 0),
+            Counted::Refused(r) => Numbers::refused(r),
+        }
+    }
+}
+
+// A slot's weight.
+pub enum Weighed {
+    Weight(u64),
+    Refused(Refusal),
+}
+
+impl Weighed {
+    pub fn numbers(self) -> Numbers
+        ensures { λ r. ⌜ r ≡ answers.inNumbers answers.alone (answers.weighedTells self) ⌝ }
+    {
+        match self {
+            Weighed::Weight(w) => Numbers::given(w, 0),
+            Weighed::Refused(r) => Numbers::refused(r),
+        }
+    }
+}
+
+// The weight that was popped, and the count that the tree then has.
+pub enum Popped {
+    Weight(u64, usize),
+    Refused(Refusal),
+}
+
+impl Popped {
+    pub fn numbers(self) -> Numbers
+        ensures { λ r. ⌜ r ≡ answers.inNumbers (λ v. v) (answers.poppedTells self) ⌝ }
+    {
+        match self {
+            Popped::Weight(w, n) => Numbers::given(w, n as u64),
+            Popped::Refused(r) => Numbers::refused(r),
         }
     }
 }

@@ -1,7 +1,7 @@
 -- The way from a cell up to cell 0. The parents end at cell 0 by their own rule, whatever bound the definition has; what is tested and
--- changed along them goes a parent at a time; and along sound parents the cells only grow, so that what cell 0 has room for and the first
--- cell has enough for, each of them has. By recursion up the way. Assumes nothing.
-use Prim.Native.Nat.{ℕ, zero, suc, _+_, _*_, _-_, _/_, _≤_, _<_, _^_}
+-- changed along them goes a parent at a time; and along sound parents the cells only grow, so that each lies between the first cell and the
+-- total. By recursion up the way. Assumes nothing.
+use Prim.Native.Nat.{ℕ, zero, suc, _+_, _*_, _-_, _/_, _≤_, _<_}
 use native.Mathlib.Omega.{arith}
 use mathlib.Core.Bool.{Bool, true, false, _&&_}
 use mathlib.Core.Path.{_≡_, refl, ap, _∙_}
@@ -10,7 +10,7 @@ use mathlib.Core.Logic.{_⊎_, inl, inr}
 use lib.ListN.{getD, set}
 use lib.Seq.{getD-set-other}
 use Rattle.weighted_tree.specs.Store.{Store, cellAt, soundAt}
-use Rattle.weighted_tree.specs.Path.{parentsIn, parents, pathOf, indexesBelow, soundAll, changeAll, CanChange}
+use Rattle.weighted_tree.specs.Path.{parentsIn, parents, pathOf, indexesBelow, soundAll, changeAll, Each}
 use Rattle.weighted_tree.specs.Tests.{damaged}
 use Rattle.weighted_tree.proofs.Cells.{cell-in, sound-le}
 
@@ -109,24 +109,24 @@ pub change-up : (s : Store) (rise fall i : ℕ) → 0 < i → changeAll s rise f
 unfolding changeAll
 change-up s rise fall i h = rw (parents-up i h)
 
-pub can-here : (s : Store) (rise fall i : ℕ) → 0 < i → CanChange s rise fall (parents i) → (getD s ((i - 1) / 2) 0 + rise < 2 ^ 64) × (fall ≤ getD s ((i - 1) / 2) 0 + rise)
-unfolding CanChange
-can-here s rise fall i h r = let all = rw (parents-up i h) at r in (all .0, all .1)
+-- ---- a property of each cell of a path
+module _ (P : ℕ → Type 0) (s : Store) where
+  pub each-here : (i : ℕ) → 0 < i → Each P s (parents i) → P (getD s ((i - 1) / 2) 0)
+  unfolding Each
+  each-here i h r = (rw (parents-up i h) at r) .0
 
--- a cell that is no parent of i may change
-pub can-set : (s : Store) (rise fall k v : ℕ) {i : ℕ} → Climb i → i ≤ k → CanChange s rise fall (parents i) → CanChange (set s k v) rise fall (parents i)
-unfolding CanChange
-can-set s rise fall k v top h r = rw (parents-top 0 (omega arith)) tt
-can-set s rise fall k v (up i way) h r =
-    let all : CanChange s rise fall (i / 2 ∷ parents (i / 2)) = rw (parents-suc i) at r in
-    rw (parents-suc i)
-    (rw (getD-set-other s k (i / 2) v 0 (omega arith)) (all .0, all .1, can-set s rise fall k v way (omega arith) (all .2)))
+  -- a cell that is no parent of i may change
+  pub each-set : (k v : ℕ) {i : ℕ} → Climb i → i ≤ k → Each P s (parents i) → Each P (set s k v) (parents i)
+  unfolding Each
+  each-set k v top h r = rw (parents-top 0 (omega arith)) tt
+  each-set k v (up i way) h r =
+      let all : Each P s (i / 2 ∷ parents (i / 2)) = rw (parents-suc i) at r in
+      rw (parents-suc i)
+      (rw (getD-set-other s k (i / 2) v 0 (omega arith)) (all .0, each-set k v way (omega arith) (all .1)))
 
-pub can-up : (s : Store) (rise fall i v : ℕ) → 0 < i → CanChange s rise fall (parents i) → CanChange (set s ((i - 1) / 2) v) rise fall (parents ((i - 1) / 2))
-unfolding CanChange
-can-up s rise fall i v h r =
-    let all = rw (parents-up i h) at r in
-    can-set s rise fall ((i - 1) / 2) v (climb ((i - 1) / 2)) (omega arith) (all .2)
+  pub each-up : (i v : ℕ) → 0 < i → Each P s (parents i) → Each P (set s ((i - 1) / 2) v) (parents ((i - 1) / 2))
+  unfolding Each
+  each-up i v h r = each-set ((i - 1) / 2) v (climb ((i - 1) / 2)) (omega arith) ((rw (parents-up i h) at r) .1)
 
 -- ---- along sound parents the cells only grow
 pub parity : (i : ℕ) → (i ≡ 2 * (i / 2)) ⊎ (i ≡ 2 * (i / 2) + 1)
@@ -150,21 +150,21 @@ at-most-total s n (up i way) e =
     let h = sound-head s n (i / 2) _ (rw (parents-suc i) at e) in
     omega (arith, child-le s n i (h .0), at-most-total s n way (h .1))
 
--- so a rise that cell 0 has room for, and a fall that the first cell has enough for, can be made all the way up
-pub can-parents : (s : Store) (n rise fall : ℕ) {i : ℕ} → Climb i → i ≤ n → soundAll s n (parents i) ≡ true → fall ≤ cellAt s n i → cellAt s n 0 + rise < 2 ^ 64 → CanChange s rise fall (parents i)
-unfolding CanChange
-can-parents s n rise fall top h e q r = rw (parents-top 0 (omega arith)) tt
-can-parents s n rise fall (up i way) h e q r =
-    let k = sound-head s n (i / 2) _ (rw (parents-suc i) at e) in
-    let c = child-le s n i (k .0) in
-    let t = at-most-total s n way (k .1) in
-    let g = cell-in s n (i / 2) (omega arith) in
-    rw (parents-suc i) (omega arith, omega arith, can-parents s n rise fall way (omega arith) (k .1) (omega arith) r)
+-- so what holds of every number from a cell's to the total's holds of each cell on the way up
+module _ (P : ℕ → Type 0) (s : Store) (n : ℕ) where
+  pub each-parents : {i : ℕ} → Climb i → i ≤ n → soundAll s n (parents i) ≡ true → ((x : ℕ) → cellAt s n i ≤ x → x ≤ cellAt s n 0 → P x) → Each P s (parents i)
+  unfolding Each
+  each-parents top h e between = rw (parents-top 0 (omega arith)) tt
+  each-parents (up i way) h e between =
+      let k = sound-head s n (i / 2) _ (rw (parents-suc i) at e) in
+      let c = child-le s n i (k .0) in
+      let t = at-most-total s n way (k .1) in
+      rw (parents-suc i)
+      (rw (cell-in s n (i / 2) (omega arith)) at (between (cellAt s n (i / 2)) c t), each-parents way (omega arith) (k .1) (λ x low high. between x (omega arith) high))
 
-pub can-path : (s : Store) (n rise fall i : ℕ) → i < n → soundAll s n (pathOf i) ≡ true → fall ≤ cellAt s n i → cellAt s n 0 + rise < 2 ^ 64 → CanChange s rise fall (pathOf i)
-unfolding CanChange
-can-path s n rise fall i h e q r =
-    let k = sound-head s n i _ e in
-    let t = at-most-total s n (climb i) (k .1) in
-    let g = cell-in s n i h in
-    (omega arith, omega arith, can-parents s n rise fall (climb i) (omega arith) (k .1) q r)
+  pub each-path : (i : ℕ) → i < n → soundAll s n (pathOf i) ≡ true → ((x : ℕ) → cellAt s n i ≤ x → x ≤ cellAt s n 0 → P x) → Each P s (pathOf i)
+  unfolding Each
+  each-path i h e between =
+      let k = sound-head s n i _ e in
+      let t = at-most-total s n (climb i) (k .1) in
+      (rw (cell-in s n i h) at (between (cellAt s n i) (omega arith) t), each-parents (climb i) (omega arith) (k .1) between)

@@ -15,8 +15,8 @@ use Rattle.weighted_tree.specs.New as new
 use Rattle.weighted_tree.specs.Pop as pop
 use Rattle.weighted_tree.specs.Push as push
 use Rattle.weighted_tree.specs.Update as update
-use Rattle.weighted_tree.specs.declared.Counted.the-variants as counted
-use Rattle.weighted_tree.specs.declared.Popped.the-variants as popped
+use Rattle.refusal.specs.declared.Counted.the-variants as counted
+use Rattle.refusal.specs.declared.Popped.the-variants as popped
 
 module _ (s : Store) (ws : List ℕ) where
   pub new-refused : (r : Refusal) → once (number r) (new.refusals s ws) ≡ true → Exactly (number r) (new.refusals s ws) → new.Promise s ws (counted.Refused r) s

@@ -6,8 +6,8 @@ use mathlib.Core.List.{List, [], _∷_}
 use Rattle.refusal.specs.Outcome.{Outcome, gave, inOrder}
 use Rattle.weighted_tree.specs.Store.{Store, weightAt}
 use Rattle.weighted_tree.specs.Tests.{badCount, badIndex, damaged}
-use Rattle.weighted_tree.specs.Answers.{weighedTells}
-use Rattle.weighted_tree.specs.declared.Weighed.{Weighed}
+use Rattle.refusal.specs.Answers.{weighedTells}
+use Rattle.refusal.specs.declared.Weighed.{Weighed}
 
 -- get 7, 8, 13: on the one cell
 abbrev pub refusals : Store → ℕ → ℕ → List (ℕ × Bool)

@@ -3,7 +3,6 @@ pub mod Store
 pub mod Step
 pub mod Path
 pub mod Tests
-pub mod Answers
 pub mod New
 pub mod IsValid
 pub mod Get

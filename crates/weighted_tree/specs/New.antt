@@ -8,8 +8,8 @@ use Rattle.counting.specs.Sum.{sumOf, exceedsU64}
 use Rattle.refusal.specs.Outcome.{Outcome, gave, inOrder, leaves}
 use Rattle.weighted_tree.specs.Store.{Store}
 use Rattle.weighted_tree.specs.Tests.{tooMany}
-use Rattle.weighted_tree.specs.Answers.{countedTells}
-use Rattle.weighted_tree.specs.declared.Counted.{Counted}
+use Rattle.refusal.specs.Answers.{countedTells}
+use Rattle.refusal.specs.declared.Counted.{Counted}
 
 -- making a tree 10, 4
 abbrev pub refusals : Store → List ℕ → List (ℕ × Bool)

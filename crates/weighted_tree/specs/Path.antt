@@ -34,8 +34,11 @@ unfoldable pub changeAll : Store → ℕ → ℕ → List ℕ → Store
 changeAll s rise fall [] = s
 changeAll s rise fall (i ∷ path) = changeAll (set s i (getD s i 0 + rise - fall)) rise fall path
 
--- each cell of a path has room for the rise, and then enough for the fall: what the loop along a path asks of its callers in this crate
-unfoldable pub CanChange : Store → ℕ → ℕ → List ℕ → Type 0
-CanChange s rise fall [] = Unit {0}
-CanChange s rise fall (i ∷ path) =
-    (getD s i 0 + rise < 2 ^ 64) × (fall ≤ getD s i 0 + rise) × CanChange s rise fall path
+-- each cell of a path has a property
+unfoldable pub Each : (ℕ → Type 0) → Store → List ℕ → Type 0
+Each P s [] = Unit {0}
+Each P s (i ∷ path) = P (getD s i 0) × Each P s path
+
+-- a cell has room for the rise, and then enough for the fall: what the loop along a path asks of its callers in this crate
+abbrev pub CanChange : ℕ → ℕ → ℕ → Type 0
+CanChange rise fall x = (x + rise < 2 ^ 64) × (fall ≤ x + rise)

@@ -8,8 +8,8 @@ use Rattle.refusal.specs.Outcome.{Outcome, gave, inOrder, leaves}
 use Rattle.weighted_tree.specs.Store.{Store, weightAt}
 use Rattle.weighted_tree.specs.Path.{parents, pathOf, changeAll}
 use Rattle.weighted_tree.specs.Tests.{badCount, empty, damaged}
-use Rattle.weighted_tree.specs.Answers.{poppedTells}
-use Rattle.weighted_tree.specs.declared.Popped.{Popped}
+use Rattle.refusal.specs.Answers.{poppedTells}
+use Rattle.refusal.specs.declared.Popped.{Popped}
 
 -- pop 7, 11, 13: on the path of cell n - 1
 abbrev pub refusals : Store → ℕ → List (ℕ × Bool)

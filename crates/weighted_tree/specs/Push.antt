@@ -9,8 +9,8 @@ use Rattle.refusal.specs.Outcome.{Outcome, gave, inOrder, leaves}
 use Rattle.weighted_tree.specs.Store.{Store, total}
 use Rattle.weighted_tree.specs.Path.{parents, changeAll}
 use Rattle.weighted_tree.specs.Tests.{badCount, full, damaged}
-use Rattle.weighted_tree.specs.Answers.{countedTells}
-use Rattle.weighted_tree.specs.declared.Counted.{Counted}
+use Rattle.refusal.specs.Answers.{countedTells}
+use Rattle.refusal.specs.declared.Counted.{Counted}
 
 -- push 7, 10, 13, 4: on the parents of cell n
 abbrev pub refusals : Store → ℕ → ℕ → List (ℕ × Bool)

@@ -8,8 +8,8 @@ use Rattle.refusal.specs.Outcome.{Outcome, gave, inOrder, leaves}
 use Rattle.weighted_tree.specs.Store.{Store, total, weightAt}
 use Rattle.weighted_tree.specs.Path.{pathOf, changeAll}
 use Rattle.weighted_tree.specs.Tests.{badCount, badIndex, damaged}
-use Rattle.weighted_tree.specs.Answers.{countedTells}
-use Rattle.weighted_tree.specs.declared.Counted.{Counted}
+use Rattle.refusal.specs.Answers.{countedTells}
+use Rattle.refusal.specs.declared.Counted.{Counted}
 
 -- the difference, up and down: one of the two is 0
 abbrev pub rise : Store → ℕ → ℕ → ℕ → ℕ

@@ -15,11 +15,13 @@ use path::path_sound;
 use path::sound;
 use path::subtotal;
 use path::weight_at;
+use refusal::Counted;
 use refusal::Drawing;
 use refusal::Drawn;
-use refusal::Numbers;
+use refusal::Popped;
 use refusal::Refusal;
 use refusal::Said;
+use refusal::Weighed;
 use step::Step;
 use words::Taken;
 ghost use mathlib.Core.Path.{_≡_};
@@ -27,8 +29,7 @@ ghost use Prim.Native.Nat.{_<_, _≤_, _-_, _^_};
 ghost use mathlib.Core.List.{_++_};
 ghost use lib.ListN.{length, take, drop};
 ghost use Rattle.counting.specs.Sum.{sumOf};
-ghost use Rattle.refusal.specs.Answers.{inNumbers, alone, drawnTells};
-ghost use Rattle.weighted_tree.specs.Answers.{countedTells, weighedTells, poppedTells};
+ghost use Rattle.refusal.specs.Answers.{drawnTells};
 ghost use Rattle.weighted_tree.specs.Path.{indexesBelow, soundAll};
 ghost use Rattle.weighted_tree.specs.Tests.{full};
 ghost use Rattle.weighted_tree.specs.New as new;
@@ -40,57 +41,6 @@ ghost use Rattle.weighted_tree.specs.Update as update;
 ghost use Rattle.weighted_tree.specs.Walk as walk;
 ghost use Rattle.weighted_tree.specs.Draw as draw;
 ghost use Rattle.weighted_tree.specs.IsSound as isSound;
-
-// The count that the tree has after the call.
-pub enum Counted {
-    Count(usize),
-    Refused(Refusal),
-}
-
-impl Counted {
-    pub fn numbers(self) -> Numbers
-        ensures { λ r. ⌜ r ≡ inNumbers alone (countedTells self) ⌝ }
-    {
-        match self {
-            Counted::Count(n) => Numbers::given(n as u64, 0),
-            Counted::Refused(r) => Numbers::refused(r),
-        }
-    }
-}
-
-// A slot's weight.
-pub enum Weighed {
-    Weight(u64),
-    Refused(Refusal),
-}
-
-impl Weighed {
-    pub fn numbers(self) -> Numbers
-        ensures { λ r. ⌜ r ≡ inNumbers alone (weighedTells self) ⌝ }
-    {
-        match self {
-            Weighed::Weight(w) => Numbers::given(w, 0),
-            Weighed::Refused(r) => Numbers::refused(r),
-        }
-    }
-}
-
-// The weight that was popped, and the count that the tree then has.
-pub enum Popped {
-    Weight(u64, usize),
-    Refused(Refusal),
-}
-
-impl Popped {
-    pub fn numbers(self) -> Numbers
-        ensures { λ r. ⌜ r ≡ inNumbers (λ v. v) (poppedTells self) ⌝ }
-    {
-        match self {
-            Popped::Weight(w, n) => Numbers::given(w, n as u64),
-            Popped::Refused(r) => Numbers::refused(r),
-        }
-    }
-}
 
 // Copies the weights to the front of the store.
 fn copy_in(store: &mut [u64], weights: &[u64])
@@ -109,11 +59,11 @@ fn gather(store: &mut [u64], count: usize)
     requires { ⌜ (count ≤ length (now store)) × (sumOf (take count (now store)) < 2 ^ 64) ⌝ }
     ensures { λ _. ⌜ now (store .exit) ≡ new.gathered (count - 1) (now (store .entry)) ⌝ }
 {
-    let mut i = count;
-    while 1 < i {
-        i = i - 1;
-        let parent = (i - 1) / 2;
-        store[parent] = store[parent] + store[i];
+    let mut child = count;
+    while 1 < child {
+        child = child - 1;
+        let parent = (child - 1) / 2;
+        store[parent] = store[parent] + store[child];
     }
 }
 

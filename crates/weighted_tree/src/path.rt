@@ -4,7 +4,7 @@ ghost use mathlib.Core.Bool.{true};
 ghost use Prim.Native.Nat.{_-_, _<_, _≤_};
 ghost use lib.ListN.{length};
 ghost use Rattle.weighted_tree.specs.Store.{cellAt, soundAt, weightAt};
-ghost use Rattle.weighted_tree.specs.Path.{parents, pathOf, soundAll, changeAll, CanChange};
+ghost use Rattle.weighted_tree.specs.Path.{parents, pathOf, soundAll, changeAll, Each, CanChange};
 ghost use Rattle.weighted_tree.specs.Tests.{badCount};
 
 // The most slots that a tree can have.
@@ -85,19 +85,19 @@ pub(crate) fn path_sound(store: &[u64], count: usize, index: usize) -> bool
 
 // Adds a rise to each parent of a cell, up to cell 0, and takes a fall from it.
 pub(crate) fn change_parents(store: &mut [u64], index: usize, rise: u64, fall: u64)
-    requires { ⌜ (index ≤ length (now store)) × CanChange (now store) rise fall (parents index) ⌝ }
+    requires { ⌜ (index ≤ length (now store)) × Each (CanChange rise fall) (now store) (parents index) ⌝ }
     ensures { λ _. ⌜ now (store .exit) ≡ changeAll (now (store .entry)) rise fall (parents index) ⌝ }
 {
-    let mut i = index;
-    while 0 < i {
-        i = (i - 1) / 2;
-        store[i] = store[i] + rise - fall;
+    let mut at = index;
+    while 0 < at {
+        at = (at - 1) / 2;
+        store[at] = store[at] + rise - fall;
     }
 }
 
 // The same for the cell and its parents.
 pub(crate) fn change_path(store: &mut [u64], index: usize, rise: u64, fall: u64)
-    requires { ⌜ (index < length (now store)) × CanChange (now store) rise fall (pathOf index) ⌝ }
+    requires { ⌜ (index < length (now store)) × Each (CanChange rise fall) (now store) (pathOf index) ⌝ }
     ensures { λ _. ⌜ now (store .exit) ≡ changeAll (now (store .entry)) rise fall (pathOf index) ⌝ }
 {
     store[index] = store[index] + rise - fall;

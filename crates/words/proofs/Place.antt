@@ -8,8 +8,8 @@ use mathlib.Core.Bool.{Bool, true, false, cond}
 use mathlib.Core.Logic.{_↔_, _⊎_, inl, inr}
 use mathlib.Core.Path.{_≡_, refl, sym, ap, _∙_}
 use mathlib.Core.List.{List, [], _∷_}
-use borrow.Author.Tests.{lt-ltb, le-ltb, ltb-true, ltb-false, eq-eqb, ne-eqb, eqb-true, eqb-false}
-use lib.Dec.{ltb, eqb}
+use borrow.Author.Tests.{lt-ltb, le-ltb, leb-true, leb-false, ltb-true, ltb-false, eq-eqb, ne-eqb, eqb-true, eqb-false}
+use lib.Dec.{leb, ltb, eqb}
 use lib.ListN.{length, getD, drop, drop-of-length-le}
 use lib.Seq.{drop-cons}
 use Rattle.refusal.specs.Outcome.{Outcome, gave, refused}
@@ -25,17 +25,22 @@ spill-is T r h q e k =
     let all : r + T ≡ 2 ^ 64 = omega arith in
     sym (add-mod-right r T) ∙ ap (λ (x : ℕ). x % T) all
 
-pub spill-small : (T : ℕ) → 0 < T → T < 2 ^ 64 → 2 ^ 64 % T < 2 ^ 64
-spill-small T h k = omega (arith, mod-lt (2 ^ 64) h)
+-- ---- the test of a word against 2^64 less what spills over, by the last word that is accepted
+pub last-accepted : (w spilled : ℕ) → spilled < 2 ^ 64 → leb w (18446744073709551615 - spilled) ≡ ltb w (2 ^ 64 - spilled)
+last-accepted w spilled h = go (leb w (18446744073709551615 - spilled)) refl
+  where
+    go : (b : Bool) → leb w (18446744073709551615 - spilled) ≡ b → leb w (18446744073709551615 - spilled) ≡ ltb w (2 ^ 64 - spilled)
+    go true e = e ∙ sym (lt-ltb w (2 ^ 64 - spilled) (omega (arith, leb-true w (18446744073709551615 - spilled) e)))
+    go false e = e ∙ sym (le-ltb w (2 ^ 64 - spilled) (omega (arith, leb-false w (18446744073709551615 - spilled) e)))
 
 -- ---- which words are accepted
 pub accepts-yes : (T w : ℕ) → 0 < T → w < 2 ^ 64 - 2 ^ 64 % T → accepts T w ≡ true
 unfolding accepts
 accepts-yes T w h k = rw (lt-ltb 0 T h, lt-ltb w (2 ^ 64 - 2 ^ 64 % T) k)
 
-pub accepts-no : (T w : ℕ) → 0 < T → 2 ^ 64 - 2 ^ 64 % T ≤ w → accepts T w ≡ false
+pub accepts-as : (T w spilled : ℕ) (b : Bool) → 0 < T → spilled ≡ 2 ^ 64 % T → b ≡ ltb w (2 ^ 64 - spilled) → accepts T w ≡ b
 unfolding accepts
-accepts-no T w h k = rw (lt-ltb 0 T h, le-ltb w (2 ^ 64 - 2 ^ 64 % T) k)
+accepts-as T w spilled b h e q = rw (lt-ltb 0 T h, q, e)
 
 -- below no total there is nothing
 pub accepts-none : (w : ℕ) → accepts 0 w ≡ false

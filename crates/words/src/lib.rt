@@ -1,6 +1,7 @@
 // Numbers from the words of a lent pool.
 ghost use mathlib.Core.Path.{_≡_};
-ghost use Prim.Native.Nat.{_<_, _^_, _%_};
+ghost use Prim.Native.Nat.{_<_, _-_, _^_, _%_};
+ghost use lib.Dec.{ltb};
 ghost use Rattle.words.specs.Below as below;
 
 // A number below a total, with the place of the word that gave it, counted from one.
@@ -17,6 +18,13 @@ fn spill(total: u64) -> u64
     std::num::wrapping_sub_u64(0, total) % total
 }
 
+// Whether a word lies below 2^64 less what spills over. Where nothing does that bound is no u64, so the last accepted word is tested.
+fn accepted(word: u64, spilled: u64) -> bool
+    ensures { λ r. ⌜ r ≡ ltb word (2 ^ 64 - spilled) ⌝ }
+{
+    word <= 18446744073709551615 - spilled
+}
+
 // The number below the total that the pool's first accepted word gives. Below 0 there is none.
 pub fn number_below(pool: &[u64], total: u64) -> Taken
     ensures { λ r. ⌜ below.Promise (now (pool .entry)) total r ⌝ }
@@ -24,12 +32,11 @@ pub fn number_below(pool: &[u64], total: u64) -> Taken
     if total == 0 {
         return Taken::Nothing;
     }
-    // The last accepted word, and not the first refused one, which is 2^64 where the remainder is 0.
-    let top = 18446744073709551615 - spill(total);
+    let spilled = spill(total);
     let mut i = 0;
     while i < pool.len() {
         let word = pool[i];
-        if word <= top {
+        if accepted(word, spilled) {
             return Taken::Target(word % total, i + 1);
         }
         i = i + 1;

@@ -10,7 +10,7 @@ use Rattle.refusal.specs.declared.Refusal.the-variants.{BadCount, Empty, Damage
 use Rattle.weighted_tree.specs.Path.{pathOf, soundAll}
 use Rattle.weighted_tree.specs.Tests.{badCount}
 use Rattle.weighted_tree.proofs.Cells.{good-count, cell-fits, weight-le}
-use Rattle.weighted_tree.proofs.Climb.{climb, sound-head, can-parents, damaged-no, damaged-yes}
+use Rattle.weighted_tree.proofs.Climb.{climb, sound-head, each-parents, damaged-no, damaged-yes}
 use Rattle.weighted_tree.proofs.Promised.{pop-refused, pop-done}
 use Rattle.weighted_tree.proofs.pop.Statement.{statement}
 use Rattle.weighted_tree.proofs.pop.Tie as tie
@@ -36,7 +36,8 @@ change-parents-requires : tie.Need-change-parents-requires
 change-parents-requires c κs =
     let fits = good-count _ _ (good (c .before .before .before .before .before .before .before)) in
     let total = cell-fits (c .before .before .before .before .before .before .before .before .before .before .before .args .store .now) (c .before .before .before .before .before .before .before .before .before .before .before .args .count) 0 (λ k. c .before .before .before .before .before .before .before .before .before .before .slice-known .given k .fits) in
-    (omega arith, can-parents _ (c .before .before .before .before .before .before .before .before .before .before .before .args .count) 0 _ (climb _) (omega arith) (sound-head _ _ _ _ (sound (c .before .before .before)) .1) (omega (arith, c .before .weight-at .ensures, weight-le (c .before .before .before .before .before .before .before .before .before .before .before .args .store .now) (c .before .before .before .before .before .before .before .before .before .before .before .args .count) (c .before .before .before .before .before .before .before .before .before .before .before .args .count - 1))) (omega arith))
+    let own = weight-le (c .before .before .before .before .before .before .before .before .before .before .before .args .store .now) (c .before .before .before .before .before .before .before .before .before .before .before .args .count) (c .before .before .before .before .before .before .before .before .before .before .before .args .count - 1) in
+    (omega arith, each-parents _ _ _ (climb _) (omega arith) (sound-head _ _ _ _ (sound (c .before .before .before)) .1) (λ x low high. (omega arith, omega (arith, c .before .weight-at .ensures))))
 
 returns-4 : tie.Need-returns-4
 returns-4 c =

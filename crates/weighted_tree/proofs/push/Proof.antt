@@ -12,7 +12,7 @@ use Rattle.weighted_tree.specs.Store.{cellAt}
 use Rattle.weighted_tree.specs.Path.{parents, soundAll}
 use Rattle.weighted_tree.specs.Tests.{badCount, full}
 use Rattle.weighted_tree.proofs.Cells.{has-room}
-use Rattle.weighted_tree.proofs.Climb.{climb, can-set, can-parents, damaged-no, damaged-yes}
+use Rattle.weighted_tree.proofs.Climb.{climb, each-set, each-parents, damaged-no, damaged-yes}
 use Rattle.weighted_tree.proofs.Promised.{push-refused, push-done}
 use Rattle.weighted_tree.proofs.push.Statement.{statement}
 use Rattle.weighted_tree.proofs.push.Tie as tie
@@ -43,7 +43,7 @@ returns-4 c =
 change-parents-requires : tie.Need-change-parents-requires
 change-parents-requires c κs =
     let room = has-room _ _ (good (c .before .before .before .before .before .before .before .before .before .before)) (roomy (c .before .before .before .before .before .before .before)) in
-    (simp length-set (omega arith), can-set _ _ _ _ _ (climb _) (omega arith) (can-parents _ _ _ 0 (climb _) (omega arith) (sound (c .before .before .before .before)) (omega arith) (fits (c .before))))
+    (simp length-set (omega arith), each-set _ _ _ _ (climb _) (omega arith) (each-parents _ _ _ (climb _) (omega arith) (sound (c .before .before .before .before)) (λ x low high. omega (arith, fits (c .before)))))
 
 returns-5 : tie.Need-returns-5
 returns-5 c =

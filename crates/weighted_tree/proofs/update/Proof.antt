@@ -13,7 +13,7 @@ use Rattle.weighted_tree.specs.Path.{pathOf, soundAll}
 use Rattle.weighted_tree.specs.Tests.{badCount}
 use Rattle.weighted_tree.specs.Update as update
 use Rattle.weighted_tree.proofs.Cells.{good-count, weight-le}
-use Rattle.weighted_tree.proofs.Climb.{sound-head, can-path, damaged-no, damaged-yes}
+use Rattle.weighted_tree.proofs.Climb.{sound-head, each-path, damaged-no, damaged-yes}
 use Rattle.weighted_tree.proofs.Promised.{update-refused, update-done}
 use Rattle.weighted_tree.proofs.update.Statement.{statement}
 use Rattle.weighted_tree.proofs.update.Tie as tie
@@ -50,7 +50,8 @@ returns-4 c =
 change-path-requires : tie.Need-change-path-requires
 change-path-requires c κs =
     let fits = good-count _ _ (good (c .before .before .before .before .before .before .before .before .before .before .before .before)) in
-    (omega arith, can-path _ (c .before .before .before .before .before .before .before .before .before .before .before .before .before .before .before .before .args .count) _ _ _ (c .before .before .before .before .before .before .before .before .before .before .before .if2 .left) (sound (c .before .before .before .before .before .before .before .before)) (omega (arith, c .before .excess2 .ensures, c .before .before .before .before .before .before .weight-at .ensures, weight-le (c .before .before .before .before .before .before .before .before .before .before .before .before .before .before .before .before .args .store .now) (c .before .before .before .before .before .before .before .before .before .before .before .before .before .before .before .before .args .count) (c .before .before .before .before .before .before .before .before .before .before .before .before .before .before .before .before .args .index))) (omega (arith, c .before .before .before .subtotal .ensures, c .before .before .before .subtotal .ok)))
+    let own = weight-le (c .before .before .before .before .before .before .before .before .before .before .before .before .before .before .before .before .args .store .now) (c .before .before .before .before .before .before .before .before .before .before .before .before .before .before .before .before .args .count) (c .before .before .before .before .before .before .before .before .before .before .before .before .before .before .before .before .args .index) in
+    (omega arith, each-path _ _ _ _ (c .before .before .before .before .before .before .before .before .before .before .before .if2 .left) (sound (c .before .before .before .before .before .before .before .before)) (λ x low high. (omega (arith, c .before .before .before .subtotal .ensures, c .before .before .before .subtotal .ok), omega (arith, c .before .excess2 .ensures, c .before .before .before .before .before .before .weight-at .ensures))))
 
 returns-5 : tie.Need-returns-5
 returns-5 c =

@@ -1,32 +1,32 @@
--- `path::change_parents` meets its contract. The loop's invariant: changing the parents of the cell from the start is changing those of i from
--- now, and each of those can change. Assumes nothing.
+-- `path::change_parents` meets its contract. The loop's invariant: changing the parents of the cell from the start is changing those of the
+-- cell reached from now, and each of those can change. Assumes nothing.
 use Prim.Native.Nat.{_≤_}
 use native.Mathlib.Omega.{arith}
 use mathlib.Core.Path.{_≡_, refl, sym, _∙_}
 use lib.ListN.{length, length-set}
-use Rattle.weighted_tree.specs.Path.{parents, changeAll, CanChange}
-use Rattle.weighted_tree.proofs.Climb.{change-top, change-up, can-here, can-up}
+use Rattle.weighted_tree.specs.Path.{parents, changeAll, Each, CanChange}
+use Rattle.weighted_tree.proofs.Climb.{change-top, change-up, each-here, each-up}
 use Rattle.weighted_tree.proofs.path.change_parents.Statement.{statement}
 use Rattle.weighted_tree.proofs.path.change_parents.Tie as tie
 
 abbrev Inv-loop : tie.InvT-loop
-Inv-loop store₀ index rise fall i₀ store i =
-    (i ≤ length store) × (length store ≡ length store₀) × CanChange store rise fall (parents i) × (changeAll store₀ rise fall (parents index) ≡ changeAll store rise fall (parents i))
+Inv-loop store₀ index rise fall at₀ store at =
+    (at ≤ length store) × (length store ≡ length store₀) × Each (CanChange rise fall) store (parents at) × (changeAll store₀ rise fall (parents index) ≡ changeAll store rise fall (parents at))
 
 abbrev μ-loop : tie.MeasureT-loop
-μ-loop store₀ index rise fall i₀ store i = i
+μ-loop store₀ index rise fall at₀ store at = at
 
 add-store : tie.Need-add-store Inv-loop μ-loop
-add-store c = record { fits = can-here _ _ _ _ (c .before .loop-test .taken) (c .before .before .loop .inv .2) .0 }
+add-store c = record { fits = each-here _ _ _ (c .before .loop-test .taken) (c .before .before .loop .inv .2) .0 }
 
 sub-store : tie.Need-sub-store Inv-loop μ-loop
-sub-store c = can-here _ _ _ _ (c .before .loop-test .taken) (c .before .before .loop .inv .2) .1
+sub-store c = each-here _ _ _ (c .before .loop-test .taken) (c .before .before .loop .inv .2) .1
 
 loop-again : tie.Need-loop-again Inv-loop μ-loop
 loop-again c = (
   simp length-set (omega arith),
   simp length-set (c .before .before .loop .inv .1),
-  can-up _ _ _ _ _ (c .before .loop-test .taken) (c .before .before .loop .inv .2),
+  each-up _ _ _ _ (c .before .loop-test .taken) (c .before .before .loop .inv .2),
   c .before .before .loop .inv .3 ∙ change-up _ _ _ _ (c .before .loop-test .taken),
 )
 

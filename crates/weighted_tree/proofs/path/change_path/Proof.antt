@@ -3,23 +3,23 @@ use native.Mathlib.Omega.{arith}
 use mathlib.Core.Path.{_∙_}
 use borrow.Author.Needs.{needs}
 use lib.ListN.{length-set}
-use Rattle.weighted_tree.specs.Path.{changeAll, CanChange}
-use Rattle.weighted_tree.proofs.Climb.{climb, can-set}
+use Rattle.weighted_tree.specs.Path.{changeAll, Each}
+use Rattle.weighted_tree.proofs.Climb.{climb, each-set}
 use Rattle.weighted_tree.proofs.path.change_path.Statement.{statement}
 use Rattle.weighted_tree.proofs.path.change_path.Tie as tie
 
 add-store : tie.Need-add-store
-unfolding CanChange
-add-store c = record { fits = c .before .before .pre .1 .0 }
+unfolding Each
+add-store c = record { fits = c .before .before .pre .1 .0 .0 }
 
 sub-store : tie.Need-sub-store
-unfolding CanChange
-sub-store c = c .before .before .pre .1 .1
+unfolding Each
+sub-store c = c .before .before .pre .1 .0 .1
 
 change-parents-requires : tie.Need-change-parents-requires
-unfolding CanChange
+unfolding Each
 change-parents-requires c κs =
-    (simp length-set (omega arith), can-set _ _ _ _ _ (climb _) (omega arith) (c .before .before .before .pre .1 .2))
+    (simp length-set (omega arith), each-set _ _ _ _ (climb _) (omega arith) (c .before .before .before .pre .1 .1))
 
 returns : tie.Need-returns
 unfolding changeAll

@@ -1,7 +1,7 @@
 -- `Popped::numbers` meets its contract: each arm is told which answer it is. Assumes nothing.
 use borrow.Author.Needs.{needs}
-use Rattle.weighted_tree.proofs.Popped.numbers.Statement.{statement}
-use Rattle.weighted_tree.proofs.Popped.numbers.Tie as tie
+use Rattle.refusal.proofs.Popped.numbers.Statement.{statement}
+use Rattle.refusal.proofs.Popped.numbers.Tie as tie
 
 returns : tie.Need-returns
 returns c = rw (c .before .before .self .given .1) (c .given .ensures)

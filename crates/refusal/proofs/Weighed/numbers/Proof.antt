@@ -1,7 +1,7 @@
--- `Counted::numbers` meets its contract: each arm is told which answer it is. Assumes nothing.
+-- `Weighed::numbers` meets its contract: each arm is told which answer it is. Assumes nothing.
 use borrow.Author.Needs.{needs}
-use Rattle.weighted_tree.proofs.Counted.numbers.Statement.{statement}
-use Rattle.weighted_tree.proofs.Counted.numbers.Tie as tie
+use Rattle.refusal.proofs.Weighed.numbers.Statement.{statement}
+use Rattle.refusal.proofs.Weighed.numbers.Tie as tie
 
 returns : tie.Need-returns
 returns c = rw (c .before .before .self .given .1) (c .given .ensures)

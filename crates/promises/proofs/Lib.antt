@@ -1,0 +1,6 @@
+-- The promises: theorems over the definitions that the contracts cite.
+pub mod Hits
+pub mod Weigh
+pub mod Makes
+pub mod Keeps
+pub mod Sound

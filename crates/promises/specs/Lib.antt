@@ -1,0 +1,2 @@
+-- The definitions that the promises add to those of the contracts.
+pub mod Tree
