@@ -19,19 +19,16 @@ use Rattle.words.specs.Below.{accepts, placeFrom, place, target, rule}
 use Rattle.words.specs.declared.Taken.the-variants.{Target, Nothing}
 
 -- ---- 2^64 modulo T
+-- a number above 0 taken from zero
+pub from-zero : (x r : ℕ) → x < 2 ^ 64 → r < 2 ^ 64 → (r + x) % 2 ^ 64 ≡ 0 → (x ≡ 0 → ⊥) → r ≡ 2 ^ 64 - x
+from-zero x r h q e k = omega arith
+
 -- T taken from zero, modulo T
 pub spill-is : (T r : ℕ) → T < 2 ^ 64 → r < 2 ^ 64 → (r + T) % 2 ^ 64 ≡ 0 → 0 < T → r % T ≡ 2 ^ 64 % T
 spill-is T r h q e k =
+    let less : r ≡ 2 ^ 64 - T = from-zero T r h q e (omega arith) in
     let all : r + T ≡ 2 ^ 64 = omega arith in
     sym (add-mod-right r T) ∙ ap (λ (x : ℕ). x % T) all
-
--- ---- the test of a word against 2^64 less what spills over, by the last word that is accepted
-pub last-accepted : (w spilled : ℕ) → spilled < 2 ^ 64 → leb w (18446744073709551615 - spilled) ≡ ltb w (2 ^ 64 - spilled)
-last-accepted w spilled h = go (leb w (18446744073709551615 - spilled)) refl
-  where
-    go : (b : Bool) → leb w (18446744073709551615 - spilled) ≡ b → leb w (18446744073709551615 - spilled) ≡ ltb w (2 ^ 64 - spilled)
-    go true e = e ∙ sym (lt-ltb w (2 ^ 64 - spilled) (omega (arith, leb-true w (18446744073709551615 - spilled) e)))
-    go false e = e ∙ sym (le-ltb w (2 ^ 64 - spilled) (omega (arith, leb-false w (18446744073709551615 - spilled) e)))
 
 -- ---- which words are accepted
 pub accepts-yes : (T w : ℕ) → 0 < T → w < 2 ^ 64 - 2 ^ 64 % T → accepts T w ≡ true

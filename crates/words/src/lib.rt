@@ -18,11 +18,14 @@ fn spill(total: u64) -> u64
     std::num::wrapping_sub_u64(0, total) % total
 }
 
-// Whether a word lies below 2^64 less what spills over. Where nothing does that bound is no u64, so the last accepted word is tested.
+// Whether a word lies below 2^64 less what spills over. Where nothing does, that bound is no u64, and every word does.
 fn accepted(word: u64, spilled: u64) -> bool
     ensures { λ r. ⌜ r ≡ ltb word (2 ^ 64 - spilled) ⌝ }
 {
-    word <= 18446744073709551615 - spilled
+    if spilled == 0 {
+        return true;
+    }
+    word < std::num::wrapping_sub_u64(0, spilled)
 }
 
 // The number below the total that the pool's first accepted word gives. Below 0 there is none.

@@ -1,5 +1,5 @@
 -- `all_sound` meets its contract. The loop's invariant: all cells are sound if those below i are. Assumes nothing.
-use Prim.Native.Nat.{_≤_}
+use Prim.Native.Nat.{_≤_, _<_}
 use native.Mathlib.Omega.{arith}
 use mathlib.Core.Path.{_≡_, refl, sym, ap, _∙_}
 use borrow.Author.Tests.{not-true, not-false}
@@ -17,18 +17,20 @@ abbrev μ-loop : tie.MeasureT-loop
 
 returns : tie.Need-returns Inv-loop μ-loop
 returns c =
+    let some : 0 < c .before .before .before .loop .i = omega arith in
     sym
     (c .before .before .before .loop .inv .1
-    ∙ ap (soundAll _ _) (below-next _ (c .before .before .loop-test .taken))
+    ∙ ap (soundAll _ _) (below-next _ some)
     ∙ sound-stop _ _ _ _ (sym (c .before .sound .ensures) ∙ not-true _ (c .if1 .taken)))
 
 loop-again : tie.Need-loop-again Inv-loop μ-loop
-loop-again c = (
-  omega arith,
-  c .before .before .before .loop .inv .1
-      ∙ ap (soundAll _ _) (below-next _ (c .before .before .loop-test .taken))
-      ∙ sound-cons _ _ _ _ (sym (c .before .sound .ensures) ∙ not-false _ (c .if1 .left)),
-)
+loop-again c =
+    let some : 0 < c .before .before .before .loop .i = omega arith in (
+      omega arith,
+      c .before .before .before .loop .inv .1
+          ∙ ap (soundAll _ _) (below-next _ some)
+          ∙ sound-cons _ _ _ _ (sym (c .before .sound .ensures) ∙ not-false _ (c .if1 .left)),
+    )
 
 returns-2 : tie.Need-returns-2 Inv-loop μ-loop
 returns-2 c = sym (c .before .loop .inv .1 ∙ sound-none _ _ _ (below-none _ (c .loop-test .left)))

@@ -22,12 +22,12 @@ subtotal-requires c κs = omega (arith, good-count _ _ (sym (c .before .before .
 returns-3 : tie.Need-returns-3
 unfolding isValid.rule
 returns-3 c =
-    record { answer = rw (sym (c .before .before .before .before .bad-count .ensures) ∙ c .before .before .before .if1 .left, lt-ltb 0 (c .before .before .before .before .before .before .args .count) (omega arith), ← c .before .subtotal .ensures, lt-ltb _ _ (c .if3 .taken)) }
+    record { answer = rw (sym (c .before .before .before .before .bad-count .ensures) ∙ c .before .before .before .if1 .left, lt-ltb 0 (c .before .before .before .before .before .before .args .count) (omega arith), ← c .before .subtotal .ensures, lt-ltb 0 (c .before .subtotal .result) (omega arith)) }
 
 returns-4 : tie.Need-returns-4
 unfolding isValid.rule
 returns-4 c =
-    record { answer = rw (sym (c .before .before .before .before .bad-count .ensures) ∙ c .before .before .before .if1 .left, lt-ltb 0 (c .before .before .before .before .before .before .args .count) (omega arith), ← c .before .subtotal .ensures, le-ltb _ _ (c .if3 .left)) }
+    record { answer = rw (sym (c .before .before .before .before .bad-count .ensures) ∙ c .before .before .before .if1 .left, lt-ltb 0 (c .before .before .before .before .before .before .args .count) (omega arith), ← c .before .subtotal .ensures, le-ltb 0 (c .before .subtotal .result) (omega arith)) }
 
 pub is-valid-spec : {M : Type 1} → statement M
 is-valid-spec =

@@ -1,6 +1,6 @@
 -- `path::change_parents` meets its contract. The loop's invariant: changing the parents of the cell from the start is changing those of the
 -- cell reached from now, and each of those can change. Assumes nothing.
-use Prim.Native.Nat.{_≤_}
+use Prim.Native.Nat.{_≤_, _<_}
 use native.Mathlib.Omega.{arith}
 use mathlib.Core.Path.{_≡_, refl, sym, _∙_}
 use lib.ListN.{length, length-set}
@@ -17,18 +17,23 @@ abbrev μ-loop : tie.MeasureT-loop
 μ-loop store₀ index rise fall at₀ store at = at
 
 add-store : tie.Need-add-store Inv-loop μ-loop
-add-store c = record { fits = each-here _ _ _ (c .before .loop-test .taken) (c .before .before .loop .inv .2) .0 }
+add-store c =
+    let some : 0 < c .before .before .loop .at = omega arith in
+    record { fits = each-here _ _ _ some (c .before .before .loop .inv .2) .0 }
 
 sub-store : tie.Need-sub-store Inv-loop μ-loop
-sub-store c = each-here _ _ _ (c .before .loop-test .taken) (c .before .before .loop .inv .2) .1
+sub-store c =
+    let some : 0 < c .before .before .loop .at = omega arith in
+    each-here _ _ _ some (c .before .before .loop .inv .2) .1
 
 loop-again : tie.Need-loop-again Inv-loop μ-loop
-loop-again c = (
-  simp length-set (omega arith),
-  simp length-set (c .before .before .loop .inv .1),
-  each-up _ _ _ _ (c .before .loop-test .taken) (c .before .before .loop .inv .2),
-  c .before .before .loop .inv .3 ∙ change-up _ _ _ _ (c .before .loop-test .taken),
-)
+loop-again c =
+    let some : 0 < c .before .before .loop .at = omega arith in (
+      simp length-set (omega arith),
+      simp length-set (c .before .before .loop .inv .1),
+      each-up _ _ _ _ some (c .before .before .loop .inv .2),
+      c .before .before .loop .inv .3 ∙ change-up _ _ _ _ some,
+    )
 
 pub change-parents-spec : {M : Type 1} → statement M
 change-parents-spec =

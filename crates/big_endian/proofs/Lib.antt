@@ -1,0 +1,2 @@
+-- Laws of bytes and the numbers they spell.
+pub mod Spells

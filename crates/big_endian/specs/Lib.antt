@@ -1,0 +1,2 @@
+-- What bytes spell.
+pub mod Bytes

@@ -1,0 +1,2 @@
+-- What the reader of records keeps true.
+pub mod Parts

@@ -1,0 +1,199 @@
+#!/usr/bin/env python3
+"""Writes the records of the calls at their limits: crates/compare/stdin.
+
+usage: limits.py [--list] [FILE]
+
+Each case below is a call, what is lent and handed in, and what docs/RULES.md says of the answer and of every lent
+cell; all of it was worked out from the rules by hand, and none of it by running the port. --list prints the cases
+with their places, to find the one that `compare` names. docs/VECTORS.md describes the records."""
+import pathlib
+import struct
+import sys
+
+CODES = {'new': 1, 'is_valid': 2, 'get': 3, 'pop': 4, 'push': 5, 'update': 6, 'walk': 7, 'draw': 8, 'is_sound': 9}
+MOST = 2 ** 64 - 1
+HALF = 2 ** 63
+cases = []
+
+
+def case(call, name, numbers, lent, answer, after):
+    """One record: at most four lists lent and two left; the answer as a list of numbers."""
+    cases.append((call, name, numbers, lent, answer, after))
+
+
+def no(number):
+    return [number, 0, 0]
+
+
+def yes(first, second=0):
+    return [0, first, second]
+
+
+# ---- the tree: what is lent is the store, and for making and drawing a second list
+def changes(call, name, store, numbers, answer, after):
+    case(call, name, numbers, [store], answer, [after])
+
+
+def reads(call, store, *questions):
+    for name, numbers, answer in questions:
+        case(call, name, numbers, [store], answer, [])
+
+
+def new(name, store, weights, answer, after):
+    case('new', name, [], [store, weights], answer, [after])
+
+
+def draws(store, count, *questions):
+    for name, pool, answer in questions:
+        case('draw', name, [count], [store, pool], answer, [])
+
+
+# making: 10, 4, else the subtotals, and cells past the count as they were
+new('four weights', [7] * 5, [1, 2, 3, 4], yes(4), [10, 6, 3, 4, 7])
+new('no weights', [7, 7], [], yes(0), [7, 7])
+new('no weights in no store', [], [], yes(0), [])
+new('zeros only', [5] * 4, [0, 0, 0], yes(3), [0, 0, 0, 5])
+new('zeros among others', [5] * 4, [0, 2, 0], yes(3), [2, 2, 0, 5])
+new('the largest u64 in one slot', [1, 2], [MOST], yes(1), [MOST, 2])
+new('a sum of the largest u64', [1, 2, 3], [MOST - 2, 1, 1], yes(3), [MOST, 1, 1])
+new('a sum of one more', [1, 2, 3], [MOST - 1, 1, 1], no(4), [1, 2, 3])
+new('two largest numbers', [1, 2], [MOST, MOST], no(4), [1, 2])
+new('three weights in two cells', [1, 2], [1, 1, 1], no(10), [1, 2])
+new('10 before 4', [1, 2], [MOST] * 3, no(10), [1, 2])
+new('one weight in no store', [], [1], no(10), [])
+
+# is_valid: 7, else whether the count and cell 0 are above 0
+reads('is_valid', [5, 1], ('a total', [1], yes(1)), ('an empty tree over a cell', [0], yes(0)),
+      ('a count above the length', [3], no(7)), ('the largest count', [MOST], no(7)))
+reads('is_valid', [0, 9], ('a total of 0', [1], yes(0)), ('a total of 0 above a cell', [2], yes(0)))
+reads('is_valid', [], ('no store', [0], yes(0)), ('no store and a count', [1], no(7)))
+
+# get: 7, 8, 13 on the one cell, else the weight
+reads('get', [10, 6, 3, 4, 99], ('slot 0', [4, 0], yes(1)), ('slot 1, whose other child is past the count', [4, 1], yes(2)),
+      ('slot 2', [4, 2], yes(3)), ('slot 3', [4, 3], yes(4)), ('at the count', [4, 4], no(8)),
+      ('the largest index', [4, MOST], no(8)), ('7 before 8', [6, 9], no(7)))
+reads('get', [5, 6, 0], ('a cell below its left child', [3, 0], no(13)), ('a sound cell beside it', [3, 1], yes(6)),
+      ('another', [3, 2], yes(0)), ('8 before 13', [3, 3], no(8)))
+reads('get', [5, 3, 3], ('a cell below both children together', [3, 0], no(13)))
+reads('get', [MOST] * 3, ('children whose sum is no u64', [3, 0], no(13)), ('a child of the largest u64', [3, 1], yes(MOST)))
+
+# pop: 7, 11, 13 on the path of the last cell, else its weight leaves every parent
+changes('pop', 'three slots', [4, 1, 1], [3], yes(1, 2), [3, 1, 0])
+changes('pop', 'a grandchild', [10, 6, 3, 4, 8], [4], yes(4, 3), [6, 2, 3, 0, 8])
+changes('pop', 'the last slot', [MOST, 3], [1], yes(MOST, 0), [0, 3])
+changes('pop', 'an unsound cell off the path', [20, 3, 5, 4, 4, 2], [6], yes(2, 5), [18, 3, 3, 4, 4, 0])
+changes('pop', 'an empty tree', [4], [0], no(11), [4])
+changes('pop', 'no store', [], [0], no(11), [])
+changes('pop', 'a count above the length', [4], [2], no(7), [4])
+changes('pop', 'a parent below its child', [10, 3, 3, 4], [4], no(13), [10, 3, 3, 4])
+changes('pop', 'cell 0 below its children', [8, 6, 3, 4], [4], no(13), [8, 6, 3, 4])
+
+# push: 7, 10, 13 on the parents of the new cell, 4, else the weight is added to every parent
+changes('push', 'a third slot', [2, 0, 7], [2, 1], yes(3), [3, 0, 1])
+changes('push', 'a grandchild', [6, 2, 3, 7, 8], [3, 4], yes(4), [10, 6, 3, 4, 8])
+changes('push', 'the first slot', [7, 8], [0, MOST], yes(1), [MOST, 8])
+changes('push', 'up to the largest u64', [MOST - 1, 5], [1, 1], yes(2), [MOST, 1])
+changes('push', 'nothing to the largest u64', [MOST, 5], [1, 0], yes(2), [MOST, 0])
+changes('push', 'an unsound cell off the path', [20, 3, 5, 4, 4, 8], [5, 1], yes(6), [21, 3, 6, 4, 4, 1])
+changes('push', 'one more than the largest u64', [MOST, 5], [1, 1], no(4), [MOST, 5])
+changes('push', 'a full store', [1, 1], [2, 1], no(10), [1, 1])
+changes('push', 'no store', [], [0, 1], no(10), [])
+changes('push', 'a count above the length', [1, 1], [3, 1], no(7), [1, 1])
+changes('push', 'a parent below its child', [10, 2, 3, 4, 9], [4, 1], no(13), [10, 2, 3, 4, 9])
+changes('push', 'cell 0 below its children', [1, 5, 0, 9], [3, 1], no(13), [1, 5, 0, 9])
+changes('push', '10 before 13', [1, 5, 0], [3, 1], no(10), [1, 5, 0])
+changes('push', '13 before 4', [MOST - 1, MOST, 0, 9], [3, MOST], no(13), [MOST - 1, MOST, 0, 9])
+
+# update: 7, 8, 13 on the path of the cell, 4, else the cell and every parent change by the difference
+changes('update', 'a slot of 0', [3, 0, 1], [3, 1, 1], yes(3), [4, 1, 1])
+changes('update', 'a fall', [10, 6, 3, 4, 8], [4, 3, 1], yes(4), [7, 3, 3, 1, 8])
+changes('update', 'to 0', [10, 6, 3, 4], [4, 0, 0], yes(4), [9, 6, 3, 4])
+changes('update', 'to the same', [10, 6, 3, 4], [4, 1, 2], yes(4), [10, 6, 3, 4])
+changes('update', 'up to the largest u64', [10, 6, 3, 4], [4, 0, MOST - 9], yes(4), [MOST, 6, 3, 4])
+changes('update', 'an unsound cell off the path', [20, 3, 5, 4, 4, 2], [6, 5, 3], yes(6), [21, 3, 6, 4, 4, 3])
+changes('update', 'one more than the largest u64', [10, 6, 3, 4], [4, 0, MOST - 8], no(4), [10, 6, 3, 4])
+changes('update', 'at the count', [10, 6, 3, 4, 8], [4, 4, 1], no(8), [10, 6, 3, 4, 8])
+changes('update', 'in an empty tree', [10], [0, 0, 1], no(8), [10])
+changes('update', 'a count above the length', [1, 1], [3, 0, 1], no(7), [1, 1])
+changes('update', 'the cell below its child', [10, 3, 3, 4], [4, 1, 9], no(13), [10, 3, 3, 4])
+changes('update', 'a parent below its children', [8, 6, 3, 4], [4, 3, 0], no(13), [8, 6, 3, 4])
+changes('update', '13 before 4', [8, 6, 3, 4], [4, 3, MOST], no(13), [8, 6, 3, 4])
+
+# walk: 7, 3, 9, 13 on the cells visited, else the slot
+reads('walk', [10, 6, 3, 4, 99], *[(f'target {t}', [4, t], yes(i)) for t, i in enumerate([3, 3, 3, 3, 1, 1, 2, 2, 2, 0])],
+      ('at the total', [4, 10], no(9)), ('the largest target', [4, MOST], no(9)), ('an empty tree', [0, 0], no(3)),
+      ('7 before 3', [6, 0], no(7)))
+reads('walk', [4, 0, 4], ('past a child of 0', [3, 0], yes(2)))
+reads('walk', [0, 0], ('a total of 0', [2, 0], no(3)), ('3 before 9', [2, MOST], no(3)))
+reads('walk', [MOST], ('the last target of the largest u64', [1, MOST - 1], yes(0)), ('the largest u64 itself', [1, MOST], no(9)))
+reads('walk', [10, 6, 3, 7], ('an unsound cell on the way', [4, 0], no(13)), ('the same cell off the way', [4, 6], yes(2)),
+      ('9 before 13', [4, 10], no(9)))
+reads('walk', [5, 6, 3], ('an unsound cell 0', [3, 4], no(13)))
+reads('walk', [MOST] * 3, ('children whose sum is no u64', [3, 0], no(13)))
+
+# draw: 7, 3, 12, 13, else the slot of the first accepted word's target, and the words up to it.
+# 2^64 leaves 6 by 10, 4 by 6, 0 by 1 and by 2^63, 1 by 2^64 - 1, and 2^63 - 1 by 2^63 + 1.
+draws([10, 6, 3, 4], 4, ('target 3', [13], yes(3, 1)), ('two words refused', [MOST, MOST - 5, 25], yes(1, 3)),
+      ('the last accepted word', [MOST - 6], yes(0, 1)), ('words left over', [9, 0, 0], yes(0, 1)),
+      ('an empty pool', [], no(12)), ('refused words only', [MOST, MOST - 1], no(12)))
+draws([6, 1], 2, ('T = 6, the last four words and the fifth', [MOST - k for k in range(5)], yes(0, 5)), ('T = 6, target 0', [12], yes(1, 1)))
+draws([1], 1, ('T = 1, the last word', [MOST], yes(0, 1)))
+draws([MOST, 1], 2, ('T the largest u64, its one refused word', [MOST, MOST - 1], yes(0, 2)), ('T the largest u64, target 0', [0], yes(1, 1)))
+draws([HALF, 1], 2, ('T = 2^63, the last word', [MOST], yes(0, 1)), ('T = 2^63, target 0', [HALF], yes(1, 1)))
+draws([HALF + 1, 1], 2, ('T = 2^63 + 1, the last accepted word', [HALF], yes(0, 1)),
+      ('T = 2^63 + 1, the first refused word', [HALF + 1, 0], yes(1, 2)), ('T = 2^63 + 1, no accepted word', [MOST, HALF + 1], no(12)))
+draws([10, 6, 3, 4], 0, ('an empty tree', [3], no(3)), ('3 before 12', [], no(3)))
+draws([0, 0], 2, ('a total of 0', [3], no(3)))
+draws([10, 6, 3, 4], 5, ('a count above the length', [3], no(7)), ('7 before 3', [], no(7)))
+draws([10, 6, 3, 7], 4, ('an unsound cell on the way', [0], no(13)), ('the same after a skipped word', [MOST, 0], no(13)),
+      ('the same cell off the way', [6], yes(2, 1)), ('12 before 13', [], no(12)))
+
+# is_sound: 7, else whether every cell below the count is sound
+reads('is_sound', [10, 6, 3, 4, 99], ('a sound tree', [4], yes(1)), ('a count above the length', [6], no(7)),
+      ('an empty tree', [0], yes(1)), ('one cell more', [5], yes(0)))
+reads('is_sound', [8, 6, 3, 4], ('cell 0 below its children', [4], yes(0)), ('cells past the count are not looked at', [1], yes(1)))
+reads('is_sound', [10, 3, 3, 4], ('cell 1 below its child', [4], yes(0)))
+reads('is_sound', [MOST] * 3, ('children whose sum is no u64', [3], yes(0)))
+
+
+# 4,096 slots and one more. The subtotals of n ones: a cell holds as many as stand in its part of the tree.
+def ones(n):
+    size = [1] * n
+    for i in range(n - 1, 0, -1):
+        size[(i - 1) // 2] += size[i]
+    return size
+
+
+full = ones(4096)
+new('4,096 slots', [9] * 4096, [1] * 4096, yes(4096), full)
+new('4,096 slots, lent longer', [9] * 4100, [1] * 4096, yes(4096), full + [9] * 4)
+new('4,097 slots', [9] * 4097, [1] * 4097, no(10), [9] * 4097)
+new('4,097 slots in 4,096 cells', [9] * 4096, [1] * 4097, no(10), [9] * 4096)
+changes('push', 'the 4,096th slot, lent longer', ones(4095) + [9, 9], [4095, 1], yes(4096), full + [9])
+changes('push', 'a 4,097th slot', full + [9], [4096, 1], no(10), full + [9])
+changes('push', 'a count of 4,097', full + [9], [4097, 1], no(7), full + [9])
+changes('pop', 'the 4,096th slot', full + [9], [4096], yes(1, 4095), ones(4095) + [0, 9])
+changes('update', 'the 4,096th slot', full, [4096, 4095, 0], yes(4096), ones(4095) + [0])
+reads('walk', full + [9], ('the first target of 4,096 slots', [4096, 0], yes(4095)), ('the last', [4096, 4095], yes(0)),
+      ('a count of 4,097', [4097, 0], no(7)))
+reads('get', full + [9], ('slot 4,095', [4096, 4095], yes(1)), ('a count of 4,097', [4097, 4095], no(7)))
+reads('is_sound', full + [9], ('4,096 slots', [4096], yes(1)), ('a count of 4,097', [4097], no(7)))
+reads('is_valid', full + [9], ('a count of 4,097', [4097], no(7)))
+
+
+def encoded(call, name, numbers, lent, answer, after):
+    words = [CODES[call], 1]
+    for numbers_of in [numbers] + lent + [[]] * (4 - len(lent)) + [answer] + after + [[]] * (2 - len(after)):
+        words += [len(numbers_of)] + numbers_of
+    return struct.pack(f'>{len(words) + 1}Q', len(words), *words)
+
+
+if __name__ == '__main__':
+    if '--list' in sys.argv:
+        for place, (call, name, *_) in enumerate(cases, 1):
+            print(place, call, '-', name)
+        sys.exit()
+    files = [a for a in sys.argv[1:] if not a.startswith('-')]
+    out = pathlib.Path(files[0]) if files else pathlib.Path(__file__).resolve().parent.parent / 'crates/compare/stdin'
+    out.write_bytes(b''.join(encoded(*c) for c in cases))
+    print(len(cases), 'records,', out.stat().st_size, 'bytes')
