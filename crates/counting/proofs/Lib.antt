@@ -1,2 +1,3 @@
--- Laws of sums.
+-- Laws of sums and of counts.
 pub mod Sums
+pub mod Below

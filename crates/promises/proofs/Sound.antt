@@ -4,12 +4,13 @@ use Prim.Native.Nat.{ℕ, zero, suc, _+_, _-_, _≤_, _<_}
 use native.Mathlib.Omega.{arith}
 use mathlib.Core.Bool.{Bool, true, false}
 use mathlib.Core.Path.{_≡_, refl, sym, ap, _∙_}
-use mathlib.Core.List.{List, [], _∷_, _++_}
+use mathlib.Core.List.{List}
 use mathlib.Core.Logic.{_↔_}
 use borrow.Author.Tests.{le-leb, leb-true, ltb-true, ltb-false, eqb-false, leb-false}
 use lib.Dec.{ltb}
-use lib.ListN.{length, getD, length-append, List·getD-append, List·getD-eq-default}
-use lib.Seq.{getD-at}
+use lib.ListN.{length, getD, List·getD-eq-default}
+use Rattle.counting.specs.Below.{listBelow}
+use Rattle.counting.proofs.Below.{length-below, getD-below}
 use Rattle.refusal.specs.Outcome.{Outcome, gave, inOrder, leaves, None}
 use Rattle.refusal.specs.Answers.{saidTells}
 use Rattle.refusal.specs.declared.Said.{Said}
@@ -29,29 +30,11 @@ use Rattle.refusal.specs.declared.Counted.{Counted}
 use Rattle.refusal.specs.declared.Popped.{Popped}
 use Rattle.weighted_tree.proofs.Cells.{sound-beyond, weight-beyond}
 use Rattle.weighted_tree.proofs.Climb.{sound-head, sound-cons, sound-none}
-use Rattle.promises.specs.Tree.{countLeft, Sound, listBelow, shown, Holds}
+use Rattle.promises.specs.Tree.{countLeft, Sound, shown, Holds}
 use Rattle.promises.proofs.Makes.{made-holds}
 use Rattle.promises.proofs.Keeps.{pushed-holds, popped-holds, updated-holds}
 
 -- ---- a sound store holds the weights that it shows
-length-below : (f : ℕ → ℕ) (n : ℕ) → length (listBelow f n) ≡ n
-unfolding listBelow
-length-below f zero = refl
-length-below f (suc n) = omega (arith, length-append (listBelow f n) (f n ∷ []), length-below f n)
-
-getD-below : (f : ℕ → ℕ) (n i : ℕ) → i < n → getD (listBelow f n) i 0 ≡ f i
-unfolding listBelow
-getD-below f zero i h = absurd (omega arith)
-getD-below f (suc n) i h = go (ltb i n) refl (getD-below f n i)
-  where
-    go : (b : Bool) → ltb i n ≡ b → (i < n → getD (listBelow f n) i 0 ≡ f i) → getD (listBelow f n ++ (f n ∷ [])) i 0 ≡ f i
-    go true e ih =
-        let k = ltb-true i n e in
-        List·getD-append (listBelow f n) (f n ∷ []) 0 i (omega (arith, length-below f n)) ∙ ih k
-    go false e ih =
-        let same : i ≡ n = omega (arith, ltb-false i n e) in
-        rw same (getD-at (listBelow f n) (f n) [] 0 n (length-below f n))
-
 -- one cell, by the test and in arithmetic
 sound-test : (s : Store) (n i : ℕ) → childrenAt s n i ≤ cellAt s n i → soundAt s n i ≡ true
 unfolding soundAt
@@ -63,17 +46,17 @@ test-sound s n i e = leb-true _ _ e
 
 pub sound-holds : (s : Store) (n : ℕ) → badCount s n ≡ false → Sound s n → Holds s n (shown s n)
 sound-holds s n g h =
-    record { good = g; sound = λ i. at i (ltb i n) refl; long = length-below (weightAt s n) n; weigh = λ i. weigh i (ltb i n) refl }
+    record { good = g; sound = λ i. at i (ltb i n) refl; long = length-below n (weightAt s n); weigh = λ i. weigh i (ltb i n) refl }
   where
     at : (i : ℕ) (b : Bool) → ltb i n ≡ b → soundAt s n i ≡ true
     at i true e = sound-test s n i (h i (ltb-true i n e))
     at i false e = sound-beyond s n i (ltb-false i n e)
 
-    weigh : (i : ℕ) (b : Bool) → ltb i n ≡ b → weightAt s n i ≡ getD (listBelow (weightAt s n) n) i 0
-    weigh i true e = sym (getD-below (weightAt s n) n i (ltb-true i n e))
+    weigh : (i : ℕ) (b : Bool) → ltb i n ≡ b → weightAt s n i ≡ getD (listBelow n (weightAt s n)) i 0
+    weigh i true e = sym (getD-below n (weightAt s n) i (ltb-true i n e))
     weigh i false e =
         weight-beyond s n i (ltb-false i n e)
-        ∙ sym (List·getD-eq-default (listBelow (weightAt s n) n) 0 {n = i} (omega (arith, length-below (weightAt s n) n, ltb-false i n e)))
+        ∙ sym (List·getD-eq-default (listBelow n (weightAt s n)) 0 {n = i} (omega (arith, length-below n (weightAt s n), ltb-false i n e)))
 
 pub holds-sound : (s : Store) (n : ℕ) (ws : List ℕ) → Holds s n ws → Sound s n
 holds-sound s n ws h i k = test-sound s n i (h .sound i)

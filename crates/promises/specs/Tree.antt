@@ -1,9 +1,10 @@
 -- What a store holds: sound cells, and the weights of its slots.
-use Prim.Native.Nat.{ℕ, zero, suc, _≤_, _<_}
+use Prim.Native.Nat.{ℕ, _≤_, _<_}
 use mathlib.Core.Bool.{true, false}
 use mathlib.Core.Path.{_≡_}
-use mathlib.Core.List.{List, [], _∷_, _++_}
+use mathlib.Core.List.{List}
 use lib.ListN.{length, getD}
+use Rattle.counting.specs.Below.{listBelow}
 use Rattle.refusal.specs.Outcome.{Outcome, gave, refused}
 use Rattle.weighted_tree.specs.Store.{Store, cellAt, childrenAt, soundAt, weightAt}
 use Rattle.weighted_tree.specs.Tests.{badCount}
@@ -17,14 +18,9 @@ countLeft counted (refused k) n = n
 abbrev pub Sound : Store → ℕ → Type 0
 Sound s n = (i : ℕ) → i < n → childrenAt s n i ≤ cellAt s n i
 
--- the numbers f 0, f 1, .., f (n - 1)
-unfoldable pub listBelow : (ℕ → ℕ) → ℕ → List ℕ
-listBelow f zero = []
-listBelow f (suc n) = listBelow f n ++ (f n ∷ [])
-
 -- the weights that a store shows
 abbrev pub shown : Store → ℕ → List ℕ
-shown s n = listBelow (weightAt s n) n
+shown s n = listBelow n (weightAt s n)
 
 -- the store, with its count, is a sound tree of the weights
 pub record Holds (s : Store) (n : ℕ) (ws : List ℕ) : Type 0 where

@@ -3,7 +3,7 @@
 use Prim.Native.Nat.{ℕ}
 use mathlib.Core.Bool.{Bool, true, false, cond, not, _&&_}
 use mathlib.Core.Path.{_≡_, refl, sym, ap, _∙_}
-use mathlib.Core.List.{List, [], _∷_}
+use mathlib.Core.List.{List, [], _∷_, _++_}
 use mathlib.Core.Logic.{_↔_}
 use native.Mathlib.Omega.{arith}
 use borrow.Author.Tests.{eqb-true, eqb-false}
@@ -86,6 +86,17 @@ pub done : {A B : Type 0} (rs : List (ℕ × Bool)) (v : A) (changed found : B) 
 done rs v changed found n =
     let e = sym (gives rs v .1 n) in
     (e, ap (λ (y : Outcome _). leaves y changed found) e)
+
+-- an order that goes on in another: what the first refuses is refused, and else it is as the second says
+pub early : {A B : Type 0} (rs later : List (ℕ × Bool)) (v : B) (o : Outcome A) (k : ℕ) → refused k ≡ inOrder rs (gave v) → refused k ≡ inOrder (rs ++ later) o
+early [] later v o k e = absurd (given-not-refused v k (sym e))
+early ((j, true) ∷ rs) later v o k e = ap refused (cc)
+early ((j, false) ∷ rs) later v o k e = early rs later v o k e
+
+pub late : {A B : Type 0} (rs later : List (ℕ × Bool)) (v w : B) (o : Outcome A) → gave w ≡ inOrder rs (gave v) → inOrder (rs ++ later) o ≡ inOrder later o
+late [] later v w o e = refl
+late ((j, true) ∷ rs) later v w o e = absurd (given-not-refused w j e)
+late ((j, false) ∷ rs) later v w o e = late rs later v w o e
 
 -- a number that stands nowhere is never given
 pub never : {A : Type 0} (rs : List (ℕ × Bool)) (v : A) (k : ℕ) → absent k rs ≡ true → inOrder rs (gave v) ≡ refused k → ⊥

@@ -3,10 +3,11 @@
 use Prim.Native.Nat.{ℕ, zero, suc, pred, _+_, _*_, _-_, _≤_, _<_}
 use native.Mathlib.Omega.{arith}
 use mathlib.Core.Bool.{Bool, true, false, cond}
-use mathlib.Core.Path.{_≡_, refl, sym, ap, _∙_}
+use mathlib.Core.Path.{_≡_, refl, sym, _∙_}
 use mathlib.Core.List.{List, [], _∷_}
 use borrow.Author.Tests.{lt-ltb, le-ltb, ltb-true, ltb-false, ne-eqb}
 use lib.Dec.{ltb}
+use Rattle.refusal.proofs.Draws.{draw-ends}
 use Rattle.refusal.specs.Outcome.{Outcome, gave, refused, consumed}
 use Rattle.refusal.specs.Answers.{Ended, drawnTells}
 use Rattle.refusal.specs.declared.Drawn.{Drawn}
@@ -138,7 +139,8 @@ walk-unbounded s n t h = goes s n n 0 t h (omega arith)
 -- ---- what a draw promises, by the outcome that it ended with
 pub ended : (s : Store) (n : ℕ) (pool : List ℕ) (o : Drawn) (used : ℕ) (d : Drawing) → Ended o used d → drawnTells o ≡ draw.rule s n pool → consumed (drawnTells o) used ≡ consumed (drawnTells o) (place (total s n) pool) → draw.Promise s n pool d
 ended s n pool o used d e p q =
-    record { answer = ap drawnTells (e .same) ∙ p; words = e .words ∙ q ∙ ap (λ (x : Outcome ℕ). consumed x (place (total s n) pool)) p }
+    let ends = draw-ends o used d e (draw.rule s n pool) (place (total s n) pool) p q in
+    record { answer = ends .0; words = ends .1 }
 
 -- where a word was accepted, the draw ends as the walk with its target does
 pub drew : (s : Store) (n : ℕ) (pool : List ℕ) → badCount s n ≡ false → (T : ℕ) → T ≡ total s n → (T ≡ 0 → ⊥) → (t k : ℕ) → (place T pool ≡ k) × (target T pool ≡ t) × (k ≡ 0 → ⊥) → (o : Drawn) (d : Drawing) → drawnTells o ≡ walkEnd s n (walkPath s n t) → Ended o k d → draw.Promise s n pool d
