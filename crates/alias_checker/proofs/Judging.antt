@@ -29,11 +29,11 @@ capped-all odds fits = sym (list-below (length odds) (λ i. min (getD odds i 0) 
 
 -- ---- the judgement
 -- what a slot that strays, or a cell that exceeds u64, says
-and-both : (a b : Bool) → (a && b) ≡ true → (a ≡ true) × (b ≡ true)
+pub and-both : (a b : Bool) → (a && b) ≡ true → (a ≡ true) × (b ≡ true)
 and-both true b e = (refl, e)
 and-both false b e = absurd (let z : _≡_ {A = ℕ} 0 1 = cc in omega arith)
 
-fair-near : (ws odds links : List ℕ) → length odds ≡ length ws → fair ws odds links ≡ true → (j : ℕ) → j < length odds → far odds links (sumOf ws) j ≡ false
+pub fair-near : (ws odds links : List ℕ) → length odds ≡ length ws → fair ws odds links ≡ true → (j : ℕ) → j < length odds → far odds links (sumOf ws) j ≡ false
 unfolding drawnBy
 fair-near ws odds links long e j h = go (far odds links (sumOf ws) j) refl
   where

@@ -4,3 +4,5 @@ pub mod Weigh
 pub mod Makes
 pub mod Keeps
 pub mod Sound
+pub mod Balance
+pub mod Alias

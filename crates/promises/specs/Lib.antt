@@ -1,2 +1,3 @@
 -- The definitions that the promises add to those of the contracts.
 pub mod Tree
+pub mod Alias

@@ -14,7 +14,7 @@ use Rattle.weighted_alias.proofs.Chains.{chained-head, chained-set, cha
 use Rattle.weighted_alias.proofs.Splits.{push-links, push-count}
 
 -- ---- the pairing stands still once a list is empty
-still : (k S : ℕ) (t : Making) → pairHeads S (t .small) (t .big) t ≡ t → pairUp k S t ≡ t
+pub still : (k S : ℕ) (t : Making) → pairHeads S (t .small) (t .big) t ≡ t → pairUp k S t ≡ t
 unfolding pairUp
 still zero S t e = refl
 still (suc k) S t e = ap (λ (u : Making). pairUp k S u) e ∙ still k S t e
