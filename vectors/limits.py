@@ -10,9 +10,12 @@ import pathlib
 import struct
 import sys
 
-CODES = {'new': 1, 'is_valid': 2, 'get': 3, 'pop': 4, 'push': 5, 'update': 6, 'walk': 7, 'draw': 8, 'is_sound': 9}
+CODES = {'new': 1, 'is_valid': 2, 'get': 3, 'pop': 4, 'push': 5, 'update': 6, 'walk': 7, 'draw': 8, 'is_sound': 9,
+         'number_below': 10, 'alias new': 11, 'alias draw': 12, 'alias weights': 13, 'alias check': 14}
 MOST = 2 ** 64 - 1
 HALF = 2 ** 63
+THIRD = 6148914691236517205  # the largest u64 divided by three
+END = 4294967295
 cases = []
 
 
@@ -179,6 +182,155 @@ reads('walk', full + [9], ('the first target of 4,096 slots', [4096, 0], yes(409
 reads('get', full + [9], ('slot 4,095', [4096, 4095], yes(1)), ('a count of 4,097', [4097, 4095], no(7)))
 reads('is_sound', full + [9], ('4,096 slots', [4096], yes(1)), ('a count of 4,097', [4097], no(7)))
 reads('is_valid', full + [9], ('a count of 4,097', [4097], no(7)))
+
+
+# ---- a number from words: the first accepted word modulo T, and its place
+def takes(total, *questions):
+    for name, pool, answer in questions:
+        case('number_below', f'T = {total}, {name}', [total], [pool], answer, [])
+
+
+takes(6, ('the last four words and the fifth', [MOST - k for k in range(5)], yes(5, 5)), ('an empty pool', [], no(12)),
+      ('refused words only', [MOST, MOST - 3], no(12)), ('words left over', [20, 7], yes(2, 1)))
+takes(1, ('the last word', [MOST], yes(0, 1)))
+takes(0, ('any words', [0, MOST], no(12)), ('an empty pool', [], no(12)))
+takes(HALF, ('the last word', [MOST], yes(HALF - 1, 1)))
+takes(HALF + 1, ('the last accepted word', [HALF], yes(HALF, 1)), ('the first refused one', [HALF + 1, 3], yes(3, 2)))
+takes(MOST, ('the one refused word', [MOST], no(12)), ('the last accepted one', [MOST, MOST - 1], yes(MOST - 1, 2)))
+
+
+# ---- the alias table: what is lent is the weights or the odds first, then what the call has besides, in its order
+def built(name, weights, sum_of, odds, links):
+    """A table that is made, over cells that held something else; and the other calls over it."""
+    n = len(weights)
+    case('alias new', name, [], [weights, [7] * n, [9] * n], yes(sum_of), [odds, links])
+    case('alias weights', name, [sum_of], [odds, links, [7] * n], yes(n), [weights])
+    checked(name, weights, odds, links, 1)
+
+
+def unbuilt(name, weights, odds, links, number):
+    case('alias new', name, [], [weights, odds, links], no(number), [odds, links])
+
+
+def alias_draws(odds, links, sum_of, *questions):
+    for name, pool, answer in questions:
+        case('alias draw', name, [sum_of], [odds, links, pool], answer, [])
+
+
+def weighed(name, odds, links, sum_of, answer, after, output=None):
+    case('alias weights', name, [sum_of], [odds, links, [7] * len(odds) if output is None else output], answer, [after])
+
+
+def checked(name, weights, odds, links, says):
+    n = len(weights)
+    case('alias check', name, [], [weights, odds, links, [7] * n], yes(says), [[n * w for w in weights] if says else [0] * n])
+
+
+def unchecked(name, weights, odds, links, work, number):
+    case('alias check', name, [], [weights, odds, links, work], no(number), [work])
+
+
+# the builder: the lists run through the links; a slot that is left on one keeps its link and has odds S
+built('1, 3', [1, 3], 4, [2, 4], [1, END])
+built('1, 2, 3', [1, 2, 3], 6, [3, 6, 6], [2, END, 1])
+built('two of the same', [5, 5], 10, [10, 10], [END, 0])
+built('a big slot that becomes small', [1, 2, 2], 5, [3, 5, 4], [2, END, 1])
+built('one heavy', [1, 1, 1, 5], 8, [4, 4, 4, 8], [3, 3, 3, END])
+built('two small and two big', [2, 1, 3, 6], 12, [8, 4, 12, 12], [3, 3, END, 2])
+built('zeros among others', [0, 2, 0], 2, [0, 2, 0], [1, END, 1])
+built('one slot with the largest u64', [MOST], MOST, [MOST], [END])
+built('one slot', [1], 1, [1], [END])
+built('the largest weight of three slots', [THIRD] * 3, MOST, [MOST] * 3, [END, 0, 1])
+built('the largest weight of two slots', [HALF - 1, 1], HALF, [HALF, 2], [END, 0])
+for k in range(3):
+    heavy = [THIRD + (i == k) for i in range(3)]
+    unbuilt(f'one more than the largest of three, in slot {k}', heavy, [7] * 3, [9] * 3, 2)
+    unchecked(f'one more than the largest of three, in slot {k}', heavy, [MOST] * 3, [END, 0, 1], [7] * 3, 2)
+unbuilt('one more than the largest of two', [HALF, 0], [7, 7], [9, 9], 2)
+unbuilt('no weights', [], [], [], 1)
+unbuilt('1 before 14', [], [7], [9], 1)
+unbuilt('zeros only', [0, 0], [7, 7], [9, 9], 3)
+unbuilt('short odds', [1, 3], [7], [9, 9], 14)
+unbuilt('long odds', [1, 3], [7, 7, 7], [9, 9], 14)
+unbuilt('no odds', [1, 3], [], [9, 9], 14)
+unbuilt('short links', [1, 3], [7, 7], [9], 14)
+unbuilt('long links', [1, 3], [7, 7], [9, 9, 9], 14)
+unbuilt('14 before 2', [HALF, 0], [7], [9, 9], 14)
+unbuilt('14 before 3', [0, 0], [7, 7], [9], 14)
+
+# draw: the slot first, then the number below S. 2^64 leaves 0 by 2 and by 4, 1 by 3 and 4 by 6.
+alias_draws([2, 4], [1, END], 4, ('below the odds', [0, 1], yes(0, 2)), ('at the odds', [0, 2], yes(1, 2)), ('the last number', [0, 3], yes(1, 2)),
+            ('a full slot', [1, 3], yes(1, 2)), ('words modulo', [MOST - 1, 13], yes(0, 2)), ('words left over', [1, 0, 5], yes(1, 2)),
+            ('an empty pool', [], no(12)), ('one word short', [0], no(12)))
+alias_draws([3, 6, 6], [2, END, 1], 6, ('words skipped for both', [MOST, 3, MOST, MOST - 3, 4], yes(2, 5)), ('no accepted slot', [MOST, MOST], no(12)),
+            ('no accepted number', [1, MOST, MOST - 3], no(12)), ('one word short after a skipped one', [MOST, 3], no(12)))
+alias_draws([2, 4], [2, END], 4, ('a followed link of n', [0, 2], no(13)), ('the same link not followed', [0, 1], yes(0, 2)), ('12 before 13', [0], no(12)))
+alias_draws([2, 3], [0, END], 4, ('a followed end mark', [1, 3], no(13)), ('a slot that is linked to itself', [0, 3], yes(0, 2)))
+alias_draws([9], [END], 4, ('odds above S', [5, 3], yes(0, 2)))
+alias_draws([0], [0], 1, ('odds of 0', [5, 3], yes(0, 2)))
+alias_draws([5], [0], MOST, ('S the largest u64, its one refused word', [0, MOST, MOST - 1], yes(0, 3)))
+alias_draws([2, 4], [1, END], 0, ('S = 0', [0, 1], no(3)), ('3 before 12', [], no(3)))
+alias_draws([], [], 4, ('no slots', [0, 1], no(1)))
+alias_draws([], [1], 0, ('1 before 14 and 3', [], no(1)))
+alias_draws([2, 4], [1], 4, ('short links', [0, 1], no(14)))
+alias_draws([2, 4], [1, END, 0], 0, ('long links, 14 before 3', [0, 1], no(14)))
+
+# weights: the odds as they are, and what is lent, divided by n
+weighed('the remainder dropped', [3, 4], [1, END], 4, yes(2), [1, 2])
+weighed('odds above S as they are', [5], [7], 1, yes(1), [5])
+weighed('links that are not followed', [4, 4], [END, END], 4, yes(2), [2, 2])
+weighed('a followed link of n', [3, 4], [2, 0], 4, no(13), [0, 0])
+weighed('a followed end mark', [3, 4], [END, 0], 4, no(13), [0, 0])
+weighed('a sum of the largest u64', [MOST - 1, 0], [0, 0], 1, yes(2), [HALF - 1, 0])
+weighed('a sum of one more', [MOST, 0], [0, 0], 1, no(13), [0, 0])
+weighed('two that lend the largest u64', [0, 0], [0, 0], MOST, no(13), [0, 0])
+weighed('one that lends itself the largest u64', [0], [0], MOST, yes(1), [MOST])
+weighed('no slots', [], [], 4, no(1), [7], [7])
+weighed('1 before 14', [], [1], 0, no(1), [7], [7])
+weighed('short links', [2, 4], [1], 4, no(14), [7, 7])
+weighed('long links', [2, 4], [1, END, 0], 4, no(14), [7, 7])
+weighed('a short output', [2, 4], [1, END], 4, no(14), [7], [7])
+weighed('a long output', [2, 4], [1, END], 4, no(14), [7] * 3, [7] * 3)
+weighed('no output', [2, 4], [1, END], 4, no(14), [], [])
+weighed('S = 0', [2, 4], [1, END], 0, no(3), [7, 7])
+weighed('14 before 3', [2, 4], [1], 0, no(14), [7, 7])
+
+# check: yes where every index has n times its weight of the pairs
+checked('a full slot that is linked to itself', [1, 3], [2, 4], [1, 1], 1)
+checked('another fair table', [1, 3], [0, 2], [1, 0], 1)
+checked('odds above S', [1, 3], [2, MOST], [1, END], 1)
+checked('one slot with odds above S', [1], [5], [END], 1)
+checked('odds S everywhere', [1, 3], [4, 4], [1, END], 0)
+checked('a link of n', [1, 3], [2, 4], [2, END], 0)
+checked('one number too few', [3], [2], [1], 0)
+checked('slots exchanged', [3, 1], [2, 4], [1, END], 0)
+checked('a sum past u64', [HALF - 1, HALF - 1], [0, 0], [0, 0], 0)
+checked('a sum of 2^64, which would wrap to its weight of 0', [0, THIRD, THIRD], [2 * THIRD, THIRD - 1, 2 * THIRD], [END, 0, END], 0)
+unchecked('no weights', [], [], [], [], 1)
+unchecked('1 before 14', [], [7], [], [7], 1)
+unchecked('zeros only', [0, 0], [2, 4], [1, END], [7, 7], 3)
+unchecked('a weight too heavy', [HALF, 0], [2, 4], [1, END], [7, 7], 2)
+unchecked('short odds', [1, 3], [2], [1, END], [7, 7], 14)
+unchecked('long odds', [1, 3], [2, 4, 4], [1, END], [7, 7], 14)
+unchecked('short links', [1, 3], [2, 4], [1], [7, 7], 14)
+unchecked('long links', [1, 3], [2, 4], [1, END, 0], [7, 7], 14)
+unchecked('a short work slice', [1, 3], [2, 4], [1, END], [7], 14)
+unchecked('a long work slice', [1, 3], [2, 4], [1, END], [7] * 3, 14)
+unchecked('14 before 2', [HALF, 0], [2, 4], [1, END], [7], 14)
+
+# 4,096 slots and one more: every slot has odds S, and the big list runs down through all of them
+run_down = [END] + list(range(4095))
+built('4,096 slots', [1] * 4096, 4096, [4096] * 4096, run_down)
+alias_draws([4096] * 4096, run_down, 4096, ('the 4,096th slot', [4095, 5], yes(4095, 2)), ('a slot modulo', [4096, 4095], yes(0, 2)))
+more, one_more = [1] * 4097, [END] + list(range(4096))
+unbuilt('4,097 slots', more, more, one_more, 10)
+unbuilt('4,097 slots, 10 before 14', more, [7], [9], 10)
+alias_draws(more, one_more, 1, ('4,097 slots', [0, 0], no(10)))
+alias_draws(more, [], 0, ('4,097 slots, 10 before 14 and 3', [0, 0], no(10)))
+weighed('4,097 slots', more, one_more, 1, no(10), more, more)
+weighed('4,097 slots, 10 before 14', more, [], 1, no(10), [7], [7])
+unchecked('4,097 slots', more, more, one_more, more, 10)
+unchecked('4,097 slots, 10 before 14', more, [7], [9], [7], 10)
 
 
 def encoded(call, name, numbers, lent, answer, after):

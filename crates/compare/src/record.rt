@@ -20,8 +20,6 @@ pub const NUMBERS: usize = 0;
 
 pub const LENT: usize = 1;
 
-pub const LENT_TOO: usize = 2;
-
 pub const ANSWER: usize = 5;
 
 pub const AFTER: usize = 6;

@@ -23,6 +23,11 @@ fn name(call: u64) {
         7 => say(b"walk"),
         8 => say(b"draw"),
         9 => say(b"is_sound"),
+        10 => say(b"number_below"),
+        11 => say(b"alias new"),
+        12 => say(b"alias draw"),
+        13 => say(b"alias weights"),
+        14 => say(b"alias check"),
         _ => say(b"unknown call"),
     }
 }

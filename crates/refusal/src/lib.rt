@@ -98,7 +98,7 @@ impl Said {
     }
 }
 
-// The count that the tree has after the call.
+// A count: of a tree's slots after the call, or of the weights that a call wrote.
 pub enum Counted {
     Count(usize),
     Refused(Refusal),
@@ -115,7 +115,7 @@ impl Counted {
     }
 }
 
-// A slot's weight.
+// A weight: a slot's, or the sum of a table's.
 pub enum Weighed {
     Weight(u64),
     Refused(Refusal),

@@ -7,10 +7,10 @@ use Rattle.compare.proofs.replay.Statement.{statement}
 use Rattle.compare.proofs.replay.Tie as tie
 
 abbrev Inv-loop : tie.InvT-loop
-Inv-loop bytes₀ words₀ room₀ tally₀ place₀ bytes words room tally place = (length bytes ≡ length bytes₀) × (length words ≡ length words₀) × (length room ≡ length room₀) × (length tally ≡ length tally₀)
+Inv-loop bytes₀ words₀ room₀ links₀ tally₀ place₀ bytes words room links tally place = (length bytes ≡ length bytes₀) × (length words ≡ length words₀) × (length room ≡ length room₀) × (length links ≡ length links₀) × (length tally ≡ length tally₀)
 
 abbrev μ-loop : tie.MeasureT-loop
-μ-loop bytes₀ words₀ room₀ tally₀ place₀ bytes words room tally place = 4611686018427387904 - place
+μ-loop bytes₀ words₀ room₀ links₀ tally₀ place₀ bytes words room links tally place = 4611686018427387904 - place
 
 pub replay-spec : {M : Type 1} → statement M
 replay-spec =
@@ -21,6 +21,8 @@ replay-spec =
     (λ c. search needs)
     (λ c. search needs)
     (λ c κs. search needs)
+    (λ c. search needs)
+    (λ c. search needs)
     (λ c. search needs)
     (λ c. search needs)
     (λ c. search needs)
