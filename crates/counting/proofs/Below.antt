@@ -60,6 +60,12 @@ sum-up-to m (suc n) f h = go (ltb n m) refl (sum-up-to m n f)
     go true e ih = let all : m ≡ suc n = omega (arith, ltb-true n m e) in rw all (omega arith)
     go false e ih = omega (arith, ih (ltb-false n m e))
 
+-- the terms below a, and then b more
+pub sum-parts : (a b : ℕ) (f : ℕ → ℕ) → sumBelow (a + b) f ≡ sumBelow a f + sumBelow b (λ i. f (a + i))
+unfolding sumBelow
+sum-parts a zero f = let all : a + 0 ≡ a = omega arith in rw all (omega arith)
+sum-parts a (suc b) f = let all : a + suc b ≡ suc (a + b) = omega arith in rw all (omega (arith, sum-parts a b f))
+
 -- one term
 pub sum-term : (n i : ℕ) (f : ℕ → ℕ) → i < n → f i ≤ sumBelow n f
 unfolding sumBelow

@@ -4,5 +4,7 @@ pub mod Weigh
 pub mod Makes
 pub mod Keeps
 pub mod Sound
+pub mod Counts
+pub mod History
 pub mod Balance
 pub mod Alias

@@ -1,3 +1,4 @@
 -- The definitions that the promises add to those of the contracts.
 pub mod Tree
 pub mod Alias
+pub mod History

@@ -1,8 +1,9 @@
 -- What a store holds: sound cells, and the weights of its slots.
 use Prim.Native.Nat.{ℕ, _≤_, _<_}
-use mathlib.Core.Bool.{true, false}
+use mathlib.Core.Bool.{Bool, true, false}
 use mathlib.Core.Path.{_≡_}
 use mathlib.Core.List.{List}
+use lib.Dec.{eqb}
 use lib.ListN.{length, getD}
 use Rattle.counting.specs.Below.{listBelow}
 use Rattle.refusal.specs.Outcome.{Outcome, gave, refused}
@@ -13,6 +14,11 @@ use Rattle.weighted_tree.specs.Tests.{badCount}
 abbrev pub countLeft : {A : Type 0} → (A → ℕ) → Outcome A → ℕ → ℕ
 countLeft counted (gave v) n = counted v
 countLeft counted (refused k) n = n
+
+-- whether a call answers index i
+abbrev pub answers : Outcome ℕ → ℕ → Bool
+answers (gave j) i = eqb j i
+answers (refused k) i = false
 
 -- every cell below the count is at least its children's sum
 abbrev pub Sound : Store → ℕ → Type 0
