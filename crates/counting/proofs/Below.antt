@@ -167,6 +167,17 @@ some-none n test e i h = go (test i) refl
     go true q = absurd (let z = sym (some-true n test i h q) ∙ e in let y : _≡_ {A = ℕ} 0 1 = cc in omega arith)
     go false q = q
 
+-- where some number passes, one can be named
+pub some-found : (n : ℕ) (test : ℕ → Bool) → someBelow n test ≡ true → (i : ℕ) × (i < n) × (test i ≡ true)
+unfolding allBelow
+some-found zero test e = absurd (let z : _≡_ {A = Bool} false true = e in let y : _≡_ {A = ℕ} 0 1 = cc in omega arith)
+some-found (suc n) test e = go (test n) refl (allBelow n (λ i. not (test i))) refl (some-found n test)
+  where
+    go : (b : Bool) → test n ≡ b → (c : Bool) → allBelow n (λ i. not (test i)) ≡ c → (not c ≡ true → (i : ℕ) × (i < n) × (test i ≡ true)) → (i : ℕ) × (i < suc n) × (test i ≡ true)
+    go true q c r ih = (n, omega arith, q)
+    go false q false r ih = let found = ih refl in (found .0, omega (arith, found .1), found .2)
+    go false q true r ih = absurd (let z : not (allBelow n (λ i. not (test i)) && not (test n)) ≡ true = e in let w : _≡_ {A = Bool} false true = rw (r, q) at z in let y : _≡_ {A = ℕ} 0 1 = cc in omega arith)
+
 -- a test that is put to one number after the other
 pub record Passed (test : ℕ → Bool) (i : ℕ) : Type 0 where
   pub so-far : (k : ℕ) → k < i → test k ≡ true

@@ -6,5 +6,9 @@ pub mod Keeps
 pub mod Sound
 pub mod Counts
 pub mod History
+pub mod Rows
+pub mod TreeTable
+pub mod AliasTable
+pub mod Determined
 pub mod Balance
 pub mod Alias

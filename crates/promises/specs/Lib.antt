@@ -2,3 +2,4 @@
 pub mod Tree
 pub mod Alias
 pub mod History
+pub mod Rows

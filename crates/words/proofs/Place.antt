@@ -8,8 +8,8 @@ use mathlib.Core.Bool.{Bool, true, false, cond}
 use mathlib.Core.Logic.{_↔_, _⊎_, inl, inr}
 use mathlib.Core.Path.{_≡_, refl, sym, ap, _∙_}
 use mathlib.Core.List.{List, [], _∷_}
-use borrow.Author.Tests.{lt-ltb, le-ltb, leb-true, leb-false, ltb-true, ltb-false, eq-eqb, ne-eqb, eqb-true, eqb-false}
-use lib.Dec.{leb, ltb, eqb}
+use borrow.Author.Tests.{lt-ltb, ltb-true, ltb-false, eq-eqb, ne-eqb, eqb-true, eqb-false}
+use lib.Dec.{ltb, eqb}
 use lib.ListN.{length, getD, drop, drop-of-length-le}
 use lib.Seq.{drop-cons}
 use Rattle.refusal.specs.Outcome.{Outcome, gave, refused}
@@ -145,27 +145,24 @@ module _ (T : ℕ) (pool : List ℕ) where
   pub target-below : 0 < place T pool → target T pool < T
   target-below h = mod-lt _ (accepts-some T _ (place-at h))
 
-  -- 12 is given exactly when no word of the pool is accepted
+  -- there is no place exactly when no word of the pool is accepted, and then 12 is given
+  pub no-place : (place T pool ≡ 0) ↔ AllRefused T pool
+  no-place = (λ z. none z place-means, λ h. nowhere h place-means)
+    where
+      none : place T pool ≡ 0 → (((place T pool ≡ 0) × AllRefused T pool) ⊎ ((j : ℕ) × (place T pool ≡ suc j) × First T pool j)) → AllRefused T pool
+      none z (inl m) = m .1
+      none z (inr m) = absurd (omega (arith, m .1))
+
+      nowhere : AllRefused T pool → (((place T pool ≡ 0) × AllRefused T pool) ⊎ ((j : ℕ) × (place T pool ≡ suc j) × First T pool j)) → place T pool ≡ 0
+      nowhere h (inl m) = m .0
+      nowhere h (inr m) = let z : _≡_ {A = Bool} true false = sym (m .2 .taken) ∙ h (m .0) (m .2 .inside) in absurd (let n : _≡_ {A = ℕ} 0 1 = cc in omega arith)
+
   pub out-of-words : (rule T pool ≡ refused 12) ↔ AllRefused T pool
   unfolding rule
-  out-of-words = (λ e. none (eqb-true _ _ (law .0 e)), λ h. law .1 (eq-eqb _ _ (no-place h)))
+  out-of-words = (λ e. no-place .0 (eqb-true _ _ (law .0 e)), λ h. law .1 (eq-eqb _ _ (no-place .1 h)))
     where
       law : (rule T pool ≡ refused 12) ↔ (eqb (place T pool) 0 ≡ true)
       law = refuses (below.refusals T pool) (target T pool, place T pool) 12 refl
-
-      none : place T pool ≡ 0 → AllRefused T pool
-      none z = go place-means
-        where
-          go : (((place T pool ≡ 0) × AllRefused T pool) ⊎ ((j : ℕ) × (place T pool ≡ suc j) × First T pool j)) → AllRefused T pool
-          go (inl m) = m .1
-          go (inr m) = absurd (omega (arith, m .1))
-
-      no-place : AllRefused T pool → place T pool ≡ 0
-      no-place h = go place-means
-        where
-          go : (((place T pool ≡ 0) × AllRefused T pool) ⊎ ((j : ℕ) × (place T pool ≡ suc j) × First T pool j)) → place T pool ≡ 0
-          go (inl m) = m .0
-          go (inr m) = let z : _≡_ {A = Bool} true false = sym (m .2 .taken) ∙ h (m .0) (m .2 .inside) in absurd (let n : _≡_ {A = ℕ} 0 1 = cc in omega arith)
 
   -- ---- what the function of this crate promises, by where its search ended
   pub nothing : place T pool ≡ 0 → below.Promise pool T Nothing

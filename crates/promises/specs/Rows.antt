@@ -1,0 +1,184 @@
+-- The rows of the table of refusals, in arithmetic and quantifiers and apart from the tests that the calls' definitions use; and for each call
+-- its rows in their order.
+use Prim.Native.Nat.{ℕ, _+_, _-_, _*_, _/_, _%_, _^_, _<_, _≤_}
+use mathlib.Core.Path.{_≡_}
+use mathlib.Core.Logic.{_⊎_, _↔_}
+use mathlib.Core.List.{List, [], _∷_}
+use lib.ListN.{length, getD, drop}
+use Rattle.counting.specs.Sum.{sumOf}
+use Rattle.refusal.specs.Outcome.{Outcome, refused}
+use Rattle.words.specs.Below.{place, target}
+use Rattle.weighted_tree.specs.Store.{Store, cellAt, weightAt}
+use Rattle.weighted_tree.specs.Path.{parents, pathOf}
+use Rattle.weighted_tree.specs.Walk.{walkPath}
+use Rattle.alias_checker.specs.Shares.{lent}
+
+-- a call's numbers with their cases, in order
+abbrev pub Table : Type 1
+Table = List (ℕ × Type 0)
+
+-- number k is given: it is that of the first row whose case holds
+abbrev pub FirstIs : ℕ → Table → Type 0
+FirstIs k [] = ⊥
+FirstIs k ((j, Case) ∷ later) = ((j ≡ k) × Case) ⊎ ((Case → ⊥) × FirstIs k later)
+
+-- an outcome is refused by just these rows
+abbrev pub GivenBy : {A : Type 0} → Table → Outcome A → Type 0
+GivenBy rows o = (k : ℕ) → (o ≡ refused k) ↔ FirstIs k rows
+
+-- and a refused call leaves what it found
+pub record RefusedBy {A B : Type 0} (rows : Table) (o : Outcome A) (found after : B) : Type 0 where
+  pub given : GivenBy rows o
+  pub kept : (k : ℕ) → o ≡ refused k → after ≡ found
+
+-- ---- words
+-- for a T above 0, a word is accepted below 2^64 - (2^64 mod T)
+abbrev pub Accepted : ℕ → ℕ → Type 0
+Accepted T w = (0 < T) × (w < 2 ^ 64 - 2 ^ 64 % T)
+
+-- no word of the pool is
+abbrev pub NoWord : ℕ → List ℕ → Type 0
+NoWord T pool = (i : ℕ) → i < length pool → Accepted T (getD pool i 0) → ⊥
+
+abbrev pub WordRows : ℕ → List ℕ → Table
+WordRows T pool = (12, NoWord T pool) ∷ []
+
+-- ---- the tree
+-- some cell of a path is below its children's sum
+unfoldable pub SomeUnsound : Store → ℕ → List ℕ → Type 0
+SomeUnsound s n [] = ⊥
+SomeUnsound s n (i ∷ path) = (cellAt s n i < cellAt s n (2 * i + 1) + cellAt s n (2 * i + 2)) ⊎ SomeUnsound s n path
+
+abbrev pub BadCount : Store → ℕ → Type 0
+BadCount s n = (4096 < n) ⊎ (length s < n)
+
+abbrev pub Full : Store → ℕ → Type 0
+Full s n = (n ≡ 4096) ⊎ (n ≡ length s)
+
+-- a tree to draw from is empty, or cell 0 holds 0
+abbrev pub NoTotal : Store → ℕ → Type 0
+NoTotal s n = (n ≡ 0) ⊎ (getD s 0 0 ≡ 0)
+
+-- a number exceeds u64
+abbrev pub Exceeds : ℕ → Type 0
+Exceeds x = 2 ^ 64 ≤ x
+
+abbrev pub NewRows : Store → List ℕ → Table
+NewRows s ws =
+    (10, (4096 < length ws) ⊎ (length s < length ws))
+    ∷ (4, Exceeds (sumOf ws))
+    ∷ []
+
+abbrev pub CountRows : Store → ℕ → Table
+CountRows s n = (7, BadCount s n) ∷ []
+
+abbrev pub GetRows : Store → ℕ → ℕ → Table
+GetRows s n i =
+    (7, BadCount s n)
+    ∷ (8, n ≤ i)
+    ∷ (13, cellAt s n i < cellAt s n (2 * i + 1) + cellAt s n (2 * i + 2))
+    ∷ []
+
+abbrev pub PopRows : Store → ℕ → Table
+PopRows s n =
+    (7, BadCount s n)
+    ∷ (11, n ≡ 0)
+    ∷ (13, SomeUnsound s n (pathOf (n - 1)))
+    ∷ []
+
+abbrev pub PushRows : Store → ℕ → ℕ → Table
+PushRows s n w =
+    (7, BadCount s n)
+    ∷ (10, Full s n)
+    ∷ (13, SomeUnsound s n (parents n))
+    ∷ (4, Exceeds (cellAt s n 0 + w))
+    ∷ []
+
+abbrev pub UpdateRows : Store → ℕ → ℕ → ℕ → Table
+UpdateRows s n i w =
+    (7, BadCount s n)
+    ∷ (8, n ≤ i)
+    ∷ (13, SomeUnsound s n (pathOf i))
+    ∷ (4, Exceeds (cellAt s n 0 + (w - weightAt s n i)))
+    ∷ []
+
+abbrev pub WalkRows : Store → ℕ → ℕ → Table
+WalkRows s n t =
+    (7, BadCount s n)
+    ∷ (3, NoTotal s n)
+    ∷ (9, cellAt s n 0 ≤ t)
+    ∷ (13, SomeUnsound s n (walkPath s n t))
+    ∷ []
+
+abbrev pub DrawRows : Store → ℕ → List ℕ → Table
+DrawRows s n pool =
+    (7, BadCount s n)
+    ∷ (3, NoTotal s n)
+    ∷ (12, NoWord (cellAt s n 0) pool)
+    ∷ (13, SomeUnsound s n (walkPath s n (target (cellAt s n 0) pool)))
+    ∷ []
+
+-- ---- the alias table
+abbrev pub Differs : ℕ → ℕ → Type 0
+Differs n lent = lent ≡ n → ⊥
+
+-- a weight exceeds 18446744073709551615 / n, rounded down
+abbrev pub TooHeavy : List ℕ → Type 0
+TooHeavy ws = (i : ℕ) × (i < length ws) × (18446744073709551615 / length ws < getD ws i 0)
+
+abbrev pub SlotRows : ℕ → Type 0 → Table
+SlotRows n Unequal =
+    (1, n ≡ 0)
+    ∷ (10, 4096 < n)
+    ∷ (14, Unequal)
+    ∷ []
+
+abbrev pub WeightSumRows : List ℕ → Table
+WeightSumRows ws =
+    (2, TooHeavy ws)
+    ∷ (3, sumOf ws ≡ 0)
+    ∷ []
+
+abbrev pub AliasNewRows : List ℕ → ℕ → ℕ → Table
+AliasNewRows ws odds links =
+    let n = length ws in
+    (1, n ≡ 0)
+    ∷ (10, 4096 < n)
+    ∷ (14, Differs n odds ⊎ Differs n links)
+    ∷ (2, TooHeavy ws)
+    ∷ (3, sumOf ws ≡ 0)
+    ∷ []
+
+-- the pool has no slot, or after it no number
+abbrev pub AliasDrawRows : List ℕ → List ℕ → ℕ → List ℕ → Table
+AliasDrawRows odds links S pool =
+    let n = length odds in
+    let after = drop (place n pool) pool in
+    (1, n ≡ 0)
+    ∷ (10, 4096 < n)
+    ∷ (14, Differs n (length links))
+    ∷ (3, S ≡ 0)
+    ∷ (12, NoWord n pool ⊎ NoWord S after)
+    ∷ (13, (getD odds (target n pool) 0 ≤ target S after) × (n ≤ getD links (target n pool) 0))
+    ∷ []
+
+abbrev pub AliasCheckRows : List ℕ → ℕ → ℕ → ℕ → Table
+AliasCheckRows ws odds links work =
+    let n = length ws in
+    (1, n ≡ 0)
+    ∷ (10, 4096 < n)
+    ∷ (14, (Differs n odds ⊎ Differs n links) ⊎ Differs n work)
+    ∷ (2, TooHeavy ws)
+    ∷ (3, sumOf ws ≡ 0)
+    ∷ []
+
+-- a link that is followed is n or more, or a sum exceeds u64
+abbrev pub AliasWeightsRows : List ℕ → List ℕ → ℕ → ℕ → Table
+AliasWeightsRows odds links S output =
+    let n = length odds in
+    (1, n ≡ 0)
+    ∷ (10, 4096 < n)
+    ∷ (14, Differs n (length links) ⊎ Differs n output)
+    ∷ (3, S ≡ 0)
+    ∷ (13, ((j : ℕ) × (j < n) × ((getD odds j 0 < S) × (n ≤ getD links j 0))) ⊎ ((i : ℕ) × (i < n) × Exceeds (getD odds i 0 + lent odds links S i)))
+    ∷ []
