@@ -10,5 +10,6 @@ pub mod Rows
 pub mod TreeTable
 pub mod AliasTable
 pub mod Determined
+pub mod Stars
 pub mod Balance
 pub mod Alias

@@ -3,3 +3,4 @@ pub mod Tree
 pub mod Alias
 pub mod History
 pub mod Rows
+pub mod Stars
