@@ -1,2 +1,4 @@
--- Laws of the first accepted word.
+-- Laws of the first accepted word, of floats by their exact values, and of the floats that are made of a word.
 pub mod Place
+pub mod Value
+pub mod FromBits

@@ -1,2 +1,3 @@
--- What a pool of words gives.
+-- What a pool of words gives: numbers below a total, and floats.
 pub mod Below
+pub mod Floats

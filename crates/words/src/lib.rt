@@ -1,4 +1,9 @@
-// Numbers from the words of a lent pool.
+// Numbers and floats from the words of a lent pool.
+mod floats;
+
+pub use floats::one_sided_u;
+pub use floats::symmetric_u;
+pub use floats::unit;
 ghost use mathlib.Core.Path.{_≡_};
 ghost use Prim.Native.Nat.{_<_, _-_, _^_, _%_};
 ghost use lib.Dec.{ltb};
