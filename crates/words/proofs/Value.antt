@@ -6,16 +6,17 @@ use Prim.Native.Nat.{ℕ, zero, suc, _+_, _-_, _*_, _/_, _%_, _^_, _≤_, _<_}
 use native.Mathlib.Nat.{le-of-lt, lt-of-lt-of-le, not-le-of-lt, mul-comm, mul-assoc, mul-right-comm, mul-one, mul-pos, mul-sub, mul-le-mul-right, mul-lt-mul-of-pos-right, le-of-mul-le-mul-right, lt-of-mul-lt-mul-right, mod-eq-of-lt, eq-of-mul-eq-mul-right}
 use native.Mathlib.Omega.{arith}
 use mathlib.Core.Bool.{Bool, true, false, not, cond, true≢false}
-use borrow.Author.Tests.{le-ltb}
+use borrow.Author.Tests.{le-ltb, lt-ltb}
 use lib.Dec.{T, leb, ltb, eqb, leb→le, nleb→lt, ltb→lt, nltb→le, eqb→eq, not-T}
 use lib.IntN.{ℤ, pos, negsuc}
 use lib.Pow.{pow-add, pow-pos, pow-mono, shl-lt}
 use lib.Count.{trailingZeros}
-use lib.Ieee.{Float, nan, inf, fin, Format, binary64, prec, emax, low, top, hid, up, down, minus, size, odd, round, sum, sub, fits, toBits, ofBits, ofFields, nanBits}
+use lib.Ieee.{Float, nan, inf, fin, Format, binary64, prec, emax, low, top, hid, up, down, minus, size, odd, round, sum, sub, div, fits, toBits, ofBits, ofFields, ne, isNan, nanBits}
 use lib.Ieee.Digits.{back}
 use lib.Ieee.Exact.{HasValue, odd-sign, round-exact}
 use lib.Ieee.Fits.{odd-fits, round-fits, down-pos}
-use lib.Ieee.Bits.{ofBits-toBits, nanBits-above, is-false, cond-no}
+use lib.Ieee.Bits.{ofBits-toBits, nanBits-above, nanBits-is, is-false, cond-no}
+use lib.Ieee.Compare.{differs-from-itself, nan-differs}
 use lib.Ieee.Nearest.{div-same}
 use lib.Ieee.Scale.{round-same}
 use Rattle.words.specs.Floats.{Exact, over}
@@ -202,8 +203,44 @@ pattern b x k h i j l =
     (sym (fields b h ∙ ap (λ (z : ℕ). ofFields binary64 false z (b % 2 ^ 52)) i ∙ ap (ofFields binary64 false (suc x)) j ∙ under-ones x k l))
     (odd-sign 53 false (2 ^ 52 + k) x 1074)
 
--- a pattern up to the infinity's is no NaN's
-pub no-nan-bits : (b : ℕ) → b ≤ 0x7ff0_0000_0000_0000 → T (not (nanBits binary64 b))
+-- a pattern up to the infinity's, with the sign taken off, is no NaN's
+pub no-nan-bits : (b : ℕ) → b % 2 ^ 63 ≤ 0x7ff0_0000_0000_0000 → T (not (nanBits binary64 b))
 no-nan-bits b h =
-    let low : ltb 0x7ff0_0000_0000_0000 (b % 2 ^ 63) ≡ false = le-ltb 0x7ff0_0000_0000_0000 (b % 2 ^ 63) (omega arith) in
+    let low : ltb 0x7ff0_0000_0000_0000 (b % 2 ^ 63) ≡ false = le-ltb 0x7ff0_0000_0000_0000 (b % 2 ^ 63) h in
     subst (λ (z : Bool). T (not z)) (sym (nanBits-above binary64 b ∙ low)) tt
+
+-- ---- a NaN and its bits
+-- the NaN, and nothing else, differs from itself
+pub differs-is-nan : (x : Float) → ne x x ≡ isNan x
+unfolding isNan
+differs-is-nan nan = nan-differs
+differs-is-nan (inf s) = go (ne (inf s) (inf s)) (differs-from-itself (inf s))
+  where
+    go : (t : Bool) → (T t → inf s ≡ nan) → t ≡ false
+    go true f = let e = f tt in absurd (let z : _≡_ {A = ℕ} 0 1 = cc in omega arith)
+    go false f = refl
+differs-is-nan (fin s m e) = go (ne (fin s m e) (fin s m e)) (differs-from-itself (fin s m e))
+  where
+    go : (t : Bool) → (T t → fin s m e ≡ nan) → t ≡ false
+    go true f = let e = f tt in absurd (let z : _≡_ {A = ℕ} 0 1 = cc in omega arith)
+    go false f = refl
+
+pub no-nan : (x : Float) → ne x x ≡ false → T (not (isNan x))
+no-nan x e = subst (λ (t : Bool). T (not t)) (sym (sym (differs-is-nan x) ∙ e)) tt
+
+pub bits-of-nan : (x : Float) → ne x x ≡ true → 0x7ff8_0000_0000_0000 ≡ toBits binary64 x
+unfolding toBits
+bits-of-nan x e = ap (toBits binary64) (sym (differs-from-itself x (subst T (sym e) tt)))
+
+only-nan : (x : Float) → isNan x ≡ true → x ≡ nan
+unfolding isNan
+only-nan nan e = refl
+only-nan (inf s) e = absurd (true≢false (sym e))
+only-nan (fin s m d) e = absurd (true≢false (sym e))
+
+pub nan-of-bits : (b : ℕ) → 0x7ff0_0000_0000_0000 < b % 2 ^ 63 → ofBits binary64 b ≡ nan
+nan-of-bits b h = only-nan (ofBits binary64 b) (sym (nanBits-is binary64 b) ∙ nanBits-above binary64 b ∙ lt-ltb 0x7ff0_0000_0000_0000 (b % 2 ^ 63) h)
+
+pub zero-by-zero : div binary64 (ofBits binary64 0) (ofBits binary64 0) ≡ nan
+unfolding div ofBits
+zero-by-zero = refl

@@ -1,6 +1,8 @@
 // Numbers and floats from the words of a lent pool.
 mod floats;
 
+pub use floats::bits_of;
+pub use floats::float_of;
 pub use floats::one_sided_u;
 pub use floats::symmetric_u;
 pub use floats::unit;
