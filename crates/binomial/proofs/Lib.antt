@@ -3,3 +3,4 @@ pub mod Powers
 pub mod Setups
 pub mod Attempts
 pub mod Promised
+pub mod Determined

@@ -2,5 +2,6 @@
 pub mod Tests
 pub mod Setup
 pub mod New
+pub mod Numbers
 pub mod Attempt
 pub mod Draw

@@ -7,6 +7,7 @@ ghost use mathlib.Core.Path.{_≡_};
 ghost use Prim.Native.Nat.{_≤_};
 ghost use Rattle.binomial.specs.Setup as setup;
 ghost use Rattle.binomial.specs.New as new;
+ghost use Rattle.binomial.specs.Numbers as numbers;
 ghost use Rattle.binomial.specs.Attempt as attempt;
 ghost use Rattle.binomial.specs.Draw as draw;
 
@@ -36,6 +37,64 @@ pub enum Method {
 pub enum Made {
     Setup(Method),
     Refused(Refusal),
+}
+
+// A setup as numbers: 0, or the number of the refusal; 0 for a constant and 1 for BINV; the constant, or n; the bits of r, s
+// and a; 1 where it is flipped. What a setup does not have is 0.
+pub struct SetupNumbers {
+    pub number: u64,
+    pub kind: u64,
+    pub n: u64,
+    pub r: u64,
+    pub s: u64,
+    pub a: u64,
+    pub flip: u64,
+}
+
+impl Method {
+    pub fn numbers(self) -> SetupNumbers
+        ensures { λ k. ⌜ k ≡ numbers.methodNumbers self ⌝ }
+    {
+        match self {
+            Method::Constant(count) => SetupNumbers {
+                number: 0,
+                kind: 0,
+                n: count,
+                r: 0,
+                s: 0,
+                a: 0,
+                flip: 0,
+            },
+            Method::Binv(b) => SetupNumbers {
+                number: 0,
+                kind: 1,
+                n: b.n,
+                r: words::bits_of(b.r),
+                s: words::bits_of(b.s),
+                a: words::bits_of(b.a),
+                flip: if b.flip { 1 } else { 0 },
+            },
+        }
+    }
+}
+
+impl Made {
+    pub fn numbers(self) -> SetupNumbers
+        ensures { λ k. ⌜ k ≡ numbers.inNumbers (new.tells self) ⌝ }
+    {
+        match self {
+            Made::Setup(method) => method.numbers(),
+            Made::Refused(r) => SetupNumbers {
+                number: r.number(),
+                kind: 0,
+                n: 0,
+                r: 0,
+                s: 0,
+                a: 0,
+                flip: 0,
+            },
+        }
+    }
 }
 
 // What an attempt comes to.
@@ -141,7 +200,7 @@ fn invert(b: Binv, pool: &[u64]) -> Drawing
     Drawing::new(Drawn::Refused(Refusal::OutOfWords), 0)
 }
 
-// The count that a setup draws from the words of a pool: the number that is drawn is no index here.
+// The count that a setup draws from the words of a pool. What is drawn stands as `Index` in the answer, as in every draw.
 pub fn draw(method: Method, pool: &[u64]) -> Drawing
     ensures { λ r. ⌜ draw.Promise method (now (pool .entry)) r ⌝ }
 {
