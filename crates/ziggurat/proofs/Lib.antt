@@ -1,0 +1,4 @@
+-- Laws of the magnitude and of a round.
+pub mod Magnitude
+pub mod Promised
+pub mod Determined
