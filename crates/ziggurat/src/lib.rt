@@ -46,6 +46,43 @@ impl Rounding {
             Rounded::Refused(_) => Rounding { outcome, words: 0 },
         }
     }
+
+    pub fn numbers(self) -> RoundNumbers
+        ensures { λ k. ⌜ k ≡ numbers.roundNumbers self ⌝ }
+    {
+        let used = self.words as u64;
+        let outcome = self.outcome;
+        match outcome {
+            Rounded::Sample(x) => RoundNumbers {
+                number: 0,
+                kind: 1,
+                first: words::bits_of(x),
+                second: 0,
+                words: used,
+            },
+            Rounded::Tail(u) => RoundNumbers {
+                number: 0,
+                kind: 2,
+                first: words::bits_of(u),
+                second: 0,
+                words: used,
+            },
+            Rounded::Wedge(x, height) => RoundNumbers {
+                number: 0,
+                kind: 3,
+                first: words::bits_of(x),
+                second: words::bits_of(height),
+                words: used,
+            },
+            Rounded::Refused(r) => RoundNumbers {
+                number: r.number(),
+                kind: 0,
+                first: 0,
+                second: 0,
+                words: used,
+            },
+        }
+    }
 }
 
 // Whether x, or its magnitude where symmetric, is below the edge.
@@ -79,7 +116,8 @@ fn wedge(densities: &[f64], i: usize, x: f64, pool: &[u64]) -> Rounded
     }
     let v = words::unit(pool[1]);
     let low = densities[i + 1];
-    Rounded::Wedge(x, low + (densities[i] - low) * v)
+    let high = densities[i];
+    Rounded::Wedge(x, low + (high - low) * v)
 }
 
 // What a round of a pool that has a word ends with.
