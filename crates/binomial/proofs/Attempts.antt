@@ -115,7 +115,7 @@ pub record First (b : Binv) (pool : List ℕ) (j : ℕ) : Type 0 where
   pub ended : hasEnded (attemptBy b (getD pool j 0)) ≡ true
   pub passed : (i : ℕ) → i < j → hasEnded (attemptBy b (getD pool i 0)) ≡ false
 
-abbrev AllGiveUp : Binv → List ℕ → Type 0
+abbrev pub AllGiveUp : Binv → List ℕ → Type 0
 AllGiveUp b pool = (i : ℕ) → i < length pool → hasEnded (attemptBy b (getD pool i 0)) ≡ false
 
 abbrev Means : Binv → ℕ → List ℕ → ℕ → Type 0

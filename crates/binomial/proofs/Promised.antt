@@ -6,7 +6,7 @@ use mathlib.Core.List.{List}
 use native.Mathlib.Omega.{arith}
 use borrow.Author.Tests.{le-ltb, lt-ltb, ne-eqb}
 use lib.ListN.{getD}
-use Rattle.refusal.specs.Outcome.{Outcome, consumed}
+use Rattle.refusal.specs.Outcome.{consumed}
 use Rattle.refusal.specs.Answers.{drawnTells, Ended}
 use Rattle.refusal.specs.declared.Refusal.the-variants.{OutOfWords, TooManyTrials}
 use Rattle.refusal.specs.declared.Drawn.{Drawn}

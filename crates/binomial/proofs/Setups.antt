@@ -1,19 +1,18 @@
 -- What the setup promises, by which of its tests held: one law for each way out. Assumes nothing.
 use Prim.Native.Nat.{ℕ, _+_, _≤_, _<_}
 use mathlib.Core.Path.{_≡_, refl, sym, _∙_}
-use mathlib.Core.Bool.{Bool, true, false, cond, _||_}
+use mathlib.Core.Bool.{Bool, true, false, _||_}
 use borrow.Author.Tests.{le-ltb, lt-ltb}
-use lib.Ieee.{Float, binary64, sub, mul, div, lt, le, eq, ne, isNan}
-use Rattle.refusal.specs.Outcome.{Outcome, gave, refused}
+use lib.Ieee.{Float, binary64, mul, div, lt, le, eq, ne, isNan}
+use Rattle.refusal.specs.Outcome.{gave, refused}
 use Rattle.refusal.specs.declared.Refusal.the-variants.{ProbabilityTooSmall, ProbabilityTooLarge, TooManyTrials}
 use Rattle.words.proofs.Value.{differs-is-nan}
-use Rattle.binomial.specs.declared.Method.{Method}
 use Rattle.binomial.specs.declared.Method.the-variants.{Constant, Binv}
 use Rattle.binomial.specs.declared.Made.{Made}
 use Rattle.binomial.specs.declared.Made.the-variants as made
 use Rattle.binomial.specs.Setup.{nought, one, ten, whole, flipped, smaller, complement, powerOf, binvOf}
 use Rattle.binomial.specs.New as new
-use Rattle.binomial.specs.New.{tooSmall, tooLarge}
+use Rattle.binomial.specs.New.{tooSmall}
 
 -- ---- below 0, or a NaN
 pub small-below : (p : Float) → lt p nought ≡ true → tooSmall p ≡ true

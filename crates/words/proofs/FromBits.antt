@@ -1,14 +1,14 @@
 -- The three floats of a word: what the bits of 1 or 2 with 52 bits added are worth, and what the subtraction then leaves. So the exact values of the
 -- unit and of the two u, for every word. Assumes nothing.
 use mathlib.Core.Path.{_≡_, refl, sym, ap, _∙_}
-use Prim.Native.Nat.{ℕ, _+_, _-_, _*_, _/_, _^_, _≤_, _<_}
+use Prim.Native.Nat.{ℕ, _+_, _-_, _*_, _^_, _≤_, _<_}
 use native.Mathlib.Nat.{mul-assoc}
 use native.Mathlib.Omega.{arith}
 use mathlib.Core.Bool.{Bool, true, false, not, cond}
 use borrow.Author.Tests.{lt-ltb, le-ltb}
 use lib.Dec.{T, ltb, ltb→lt, nltb→le}
 use lib.Pow.{pow-add, pow-pos}
-use lib.Ieee.{Float, binary64, sub, ofBits}
+use lib.Ieee.{binary64, sub, ofBits}
 use lib.Ieee.Exact.{HasValue}
 use Rattle.words.specs.Floats.{Exact, topBits, over, unit, symmetricU, oneSidedU}
 use Rattle.words.proofs.Value.{rescale, over-is, less-from, less-below, pattern}

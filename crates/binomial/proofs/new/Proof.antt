@@ -1,6 +1,6 @@
 -- `new` meets its contract: a law for each test that ends it, and else the numbers of BINV. Assumes nothing.
 use mathlib.Core.Path.{_≡_}
-use mathlib.Core.Bool.{true, false}
+use mathlib.Core.Bool.{false}
 use mathlib.Core.Logic.{⊎-elim}
 use borrow.Author.Needs.{needs}
 use lib.Ieee.{ofBits}
