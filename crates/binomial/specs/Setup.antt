@@ -1,4 +1,4 @@
--- The setup of a binomial draw: the numbers of BINV for n trials of the chance p, or a constant count.
+-- The numbers of BINV for n trials of the chance p.
 use Prim.Native.Nat.{ℕ, zero, suc, _+_, _%_, _/_}
 use mathlib.Core.Bool.{Bool, false, cond}
 use lib.Dec.{eqb}
@@ -41,7 +41,7 @@ powerFrom zero n power made = made
 powerFrom (suc bits) n power made =
     powerFrom bits (n / 2) (mul binary64 power power) (cond (eqb (n % 2) 1) (mul binary64 made power) made)
 
--- r is q to the power n, begun at 1; n has 64 bits
+-- r is q to the power n: begin at 1. 64 bits are all that n has, and the number of them matters to nothing: `power-unbounded`.
 abbrev pub powerOf : Float → ℕ → Float
 powerOf q n = powerFrom 64 n q one
 

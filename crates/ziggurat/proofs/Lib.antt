@@ -1,4 +1,5 @@
--- Laws of the magnitude and of a round.
+-- Laws of the magnitude and of a round; when each refusal is given; and that the answer is determined.
 pub mod Magnitude
 pub mod Promised
 pub mod Determined
+pub mod Exactly

@@ -88,7 +88,7 @@ pub record Promise (symmetric : Bool) (X F : List Float) (pool : List ℕ) (r : 
   pub words : r .words ≡ consumed (rule symmetric X F pool) (wordsOf (shape symmetric X F pool))
 
 -- ---- the parts of a round
--- the words that were used by a round that ended so
+-- the words that a round used, by how it ended
 abbrev pub usedBy : Outcome Shape → ℕ
 usedBy (gave s) = wordsOf s
 usedBy (refused k) = 0
