@@ -4,14 +4,17 @@
 usage: limits.py [--list] [FILE]
 
 Each case below is a call, what is lent and handed in, and what docs/RULES.md says of the answer and of every lent
-cell; all of it was worked out from the rules by hand, and none of it by running the port. --list prints the cases
-with their places, to find the one that `compare` names. docs/VECTORS.md describes the records."""
+cell; all of it was worked out from the rules by hand, and none of it by running the port. The floats are Python's
+doubles, taken through the rules step by step. --list prints the cases with their places, to find the one that
+`compare` names. docs/VECTORS.md describes the records."""
+import math
 import pathlib
 import struct
 import sys
 
 CODES = {'new': 1, 'is_valid': 2, 'get': 3, 'pop': 4, 'push': 5, 'update': 6, 'walk': 7, 'draw': 8, 'is_sound': 9,
-         'number_below': 10, 'alias new': 11, 'alias draw': 12, 'alias weights': 13, 'alias check': 14}
+         'number_below': 10, 'alias new': 11, 'alias draw': 12, 'alias weights': 13, 'alias check': 14,
+         'binomial new': 15, 'binomial draw': 16, 'ziggurat round': 17}
 MOST = 2 ** 64 - 1
 HALF = 2 ** 63
 THIRD = 6148914691236517205  # the largest u64 divided by three
@@ -331,6 +334,242 @@ weighed('4,097 slots', more, one_more, 1, no(10), more, more)
 weighed('4,097 slots, 10 before 14', more, [], 1, no(10), [7], [7])
 unchecked('4,097 slots', more, more, one_more, more, 10)
 unchecked('4,097 slots, 10 before 14', more, [7], [9], [7], 10)
+
+
+# ---- floats: a record has their bits
+NAN_BITS = 0x7FF8000000000000
+
+
+def bits(x):
+    return NAN_BITS if math.isnan(x) else struct.unpack('>Q', struct.pack('>d', x))[0]
+
+
+def double(pattern):
+    return struct.unpack('>d', struct.pack('>Q', pattern))[0]
+
+
+def top(word):
+    return word >> 12
+
+
+def unit(word):
+    return top(word) / 2 ** 52
+
+
+def word_of(u):
+    """The word of a unit with at most 52 digits."""
+    return int(u * 2 ** 52) << 12
+
+
+TINY = double(1)                      # the smallest subnormal
+BELOW_1 = 1 - 2.0 ** -53
+ABOVE_1 = 1 + 2.0 ** -52
+BELOW_HALF = 0.5 - 2.0 ** -54
+ABOVE_HALF = 0.5 + 2.0 ** -53
+TRIALS = 1048576
+INF = math.inf
+NAN = math.nan
+
+
+# ---- the binomial setup: 5, 6, 15, then the constants, then 16, 17
+def power(q, n):
+    made, current = 1.0, q
+    while n:
+        if n % 2:
+            made *= current
+        current *= current
+        n //= 2
+    return made
+
+
+def refuses_setup(name, n, pattern, number):
+    case('binomial new', name, [n, pattern], [], [number] + [0] * 6, [])
+
+
+def constant(name, n, p, count):
+    case('binomial new', name, [n, bits(p)], [], [0, 0, count, 0, 0, 0, 0], [])
+
+
+def binv_of(n, p):
+    flip = p > 0.5
+    low = 1 - p if flip else p
+    q = 1 - low
+    s = low / q
+    return [power(q, n), s, (n + 1) * s, n, flip]
+
+
+def sets_up(name, n, p, flip):
+    r, s, a, n, flipped = binv_of(n, p)
+    assert flipped == flip
+    case('binomial new', name, [n, bits(p)], [], [0, 1, n, bits(r), bits(s), bits(a), int(flip)], [])
+
+
+for pattern in (NAN_BITS, 0x7FF0000000000001, 0xFFF8000000000000, 0xFFFFFFFFFFFFFFFF):
+    refuses_setup(f'p a NaN, {pattern:x}', 3, pattern, 5)
+for p in (-1.0, -TINY, -INF):
+    refuses_setup(f'p = {p}', 3, bits(p), 5)
+for p in (ABOVE_1, 2.0, INF):
+    refuses_setup(f'p = {p}', 3, bits(p), 6)
+refuses_setup('n of one more than 1,048,576', TRIALS + 1, bits(0.5), 15)
+refuses_setup('the largest n', MOST, bits(0.5), 15)
+refuses_setup('15 before the constants, p = 0', TRIALS + 1, bits(0.0), 15)
+refuses_setup('15 before the constants, p = 1', TRIALS + 1, bits(1.0), 15)
+refuses_setup('5 before 15', TRIALS + 1, NAN_BITS, 5)
+refuses_setup('6 before 15', TRIALS + 1, bits(2.0), 6)
+for n in (0, 1, 110, TRIALS):
+    constant(f'p = 0, n = {n}', n, 0.0, 0)
+    constant(f'p of minus zero, n = {n}', n, -0.0, 0)
+    constant(f'p = 1, n = {n}', n, 1.0, n)
+sets_up('n = 19 at 0.5', 19, 0.5, False)
+refuses_setup('n = 20 at 0.5', 20, bits(0.5), 16)
+sets_up('n = 20 just below 0.5', 20, BELOW_HALF, False)
+sets_up('n = 20 just above 0.5', 20, ABOVE_HALF, True)
+refuses_setup('n = 21 just above 0.5', 21, bits(ABOVE_HALF), 16)
+sets_up('n = 2 at 0.5', 2, 0.5, False)
+sets_up('n = 3 at 0.4', 3, 0.4, False)
+sets_up('n = 3 at 0.6', 3, 0.6, True)
+sets_up('n = 0', 0, 0.3, False)
+sets_up('n = 0, flipped', 0, 0.7, True)
+sets_up('n = 1', 1, 0.25, False)
+sets_up('n = 110', 110, 0.05, False)
+sets_up('n = 111', 111, 0.95, True)
+sets_up('n = 1,048,576', TRIALS, 9 * 2.0 ** -20, False)
+refuses_setup('n = 1,048,576 with a product of 10', TRIALS, bits(10 * 2.0 ** -20), 16)
+sets_up('a product just below 10', TRIALS, 10 * 2.0 ** -20 - 2.0 ** -69, False)
+refuses_setup('p the smallest subnormal', 3, bits(TINY), 17)
+refuses_setup('p the smallest subnormal, n = 0', 0, bits(TINY), 17)
+refuses_setup('p = 2^-54', 3, bits(2.0 ** -54), 17)
+sets_up('p just above 2^-54', 3, double(bits(2.0 ** -54) + 1), False)
+sets_up('p = 2^-53', 3, 2.0 ** -53, False)
+sets_up('p just below 1', 3, BELOW_1, True)
+
+
+# ---- BINV: an attempt for each unit until one ends; 15, 12
+def counts(r, s, a, n, flip, pool):
+    for attempts, word in enumerate(pool, 1):
+        u, left, x = unit(word), r, 0
+        while u > left:
+            u -= left
+            x += 1
+            if x > 110 or x > n:
+                break
+            left *= a / x - s
+        else:
+            return yes(n - x if flip else x, attempts)
+    return no(12)
+
+
+def binv(name, setup, pool, answer):
+    """The answer as the case says it: `counts`, which goes through the rule, must say the same."""
+    r, s, a, n, flip = setup
+    assert n > TRIALS or counts(r, s, a, n, flip, pool) == answer, (name, counts(r, s, a, n, flip, pool))
+    case('binomial draw', name, [1, n, bits(r), bits(s), bits(a), int(flip)], [pool], answer, [])
+
+
+def constant_draw(name, count, pool, answer):
+    case('binomial draw', name, [0, count, 0, 0, 0, 0], [pool], answer, [])
+
+
+two = binv_of(2, 0.5)
+for u, x in ((0.5, 1), (0.75, 1), (0.875, 2), (0.25, 0)):
+    binv(f'n = 2 at 0.5, unit {u}', two, [word_of(u)], yes(x, 1))
+binv('n = 2 at 0.5, the last word', two, [MOST], yes(2, 1))
+binv('n = 2 at 0.5, word 0', two, [0, 5], yes(0, 1))
+binv('n = 2 at 0.5, an empty pool', two, [], no(12))
+binv('n = 3 at 0.6, flipped', binv_of(3, 0.6), [word_of(0.5)], yes(2, 1))
+binv('n = 3 at 0.6, word 0', binv_of(3, 0.6), [0], yes(3, 1))
+binv('n = 0', binv_of(0, 0.3), [MOST], yes(0, 1))
+constant_draw('a constant, from an empty pool', 7, [], yes(7, 0))
+constant_draw('a constant leaves the words', 7, [1, 2], yes(7, 0))
+constant_draw('a constant of 0', 0, [], yes(0, 0))
+constant_draw('a constant of 1,048,576', TRIALS, [], yes(TRIALS, 0))
+constant_draw('a constant of one more', TRIALS + 1, [1], no(15))
+constant_draw('the largest constant', MOST, [], no(15))
+binv('n of one more than 1,048,576', [0.5, 1.0, 1.0, TRIALS + 1, False], [0], no(15))
+binv('15 before 12', [0.5, 1.0, 1.0, TRIALS + 1, False], [], no(15))
+# with s = -1 and a = 0 each step takes the same r from u: a unit of c times r ends at c - 1
+even = 2.0 ** -10
+for n, c, answer in ((TRIALS, 111, yes(110, 1)), (TRIALS, 112, no(12)), (111, 112, no(12)), (110, 111, yes(110, 1)), (109, 111, no(12)),
+                     (109, 110, yes(109, 1)), (5, 6, yes(5, 1)), (5, 7, no(12)), (0, 1, yes(0, 1)), (0, 2, no(12))):
+    binv(f'even steps, n = {n}, up to {c - 1}', [even, -1.0, 0.0, n, False], [word_of(c * even)], answer)
+binv('even steps, flipped, at n', [even, -1.0, 0.0, 5, True], [word_of(6 * even)], yes(0, 1))
+binv('even steps, flipped, past n', [even, -1.0, 0.0, 5, True], [word_of(7 * even), word_of(3 * even)], yes(3, 2))
+binv('x above n', [0.25, -1.0, 0.0, 0, False], [word_of(0.5)], no(12))
+binv('x above n, flipped', [0.25, -1.0, 0.0, 0, True], [word_of(0.5)], no(12))
+binv('every attempt gives up', [0.0, 0.0, 0.0, 5, False], [MOST, 4096, 4097], no(12))
+binv('two give up', [0.0, 0.0, 0.0, 5, False], [MOST, 4096, 4095, 7], yes(0, 3))
+for name, r, s, a, answer in (('r a NaN', NAN, 1.0, 3.0, yes(0, 1)), ('r infinite', INF, 1.0, 3.0, yes(0, 1)), ('r minus infinite', -INF, 0.0, 1.0, no(12)),
+                              ('r negative', -1.0, 0.0, 1.0, no(12)), ('r zero', 0.0, 1.0, 3.0, no(12)), ('r minus zero', -0.0, 1.0, 3.0, no(12)),
+                              ('s a NaN', 0.25, NAN, 3.0, yes(1, 1)), ('s infinite', 0.25, INF, 3.0, yes(2, 1)), ('s minus infinite', 0.25, -INF, 3.0, yes(1, 1)),
+                              ('a a NaN', 0.25, 1.0, NAN, yes(1, 1)), ('a infinite', 0.25, 1.0, INF, yes(1, 1)), ('a minus infinite', 0.25, 1.0, -INF, yes(2, 1)),
+                              ('s and a infinite', 0.25, INF, INF, yes(1, 1)), ('s zero, a negative', 0.25, 0.0, -3.0, no(12)), ('all subnormal', TINY, TINY, TINY, no(12))):
+    binv(name, [r, s, a, 9, False], [word_of(0.875)], answer)
+
+
+# ---- one ziggurat round: 14, 12
+def u_of(symmetric, word):
+    return (top(word) - 2 ** 51) / 2 ** 51 if symmetric else (2 * top(word) + 1) / 2 ** 53
+
+
+def rounded(symmetric, x_table, f_table, pool):
+    if len(x_table) != 257 or len(f_table) != 257:
+        return [14, 0, 0, 0, 0]
+    if not pool:
+        return [12, 0, 0, 0, 0]
+    i, u = pool[0] % 256, u_of(symmetric, pool[0])
+    x = u * x_table[i]
+    if (abs(x) if symmetric else x) < x_table[i + 1]:
+        return [0, 1, bits(x), 0, 1]
+    if i == 0:
+        return [0, 2, bits(u), 0, 1]
+    if len(pool) < 2:
+        return [12, 0, 0, 0, 0]
+    return [0, 3, bits(x), bits(f_table[i + 1] + (f_table[i] - f_table[i + 1]) * unit(pool[1])), 2]
+
+
+def rounds(name, x_table, f_table, pool, kinds):
+    """In both forms; `kinds` has the refusal's number or the kind that each is to end with, symmetric first."""
+    for symmetric, kind in zip((1, 0), kinds):
+        answer = rounded(symmetric, x_table, f_table, pool)
+        assert kind == (-answer[0] if answer[0] else answer[1]), (name, symmetric, answer)
+        case('ziggurat round', f'{name}, {"symmetric" if symmetric else "one-sided"}', [symmetric],
+             [[bits(x) for x in x_table], [bits(f) for f in f_table], pool], answer, [])
+
+
+SAMPLE, TAIL, WEDGE = 1, 2, 3
+falling = [float(257 - i) for i in range(257)]        # X falls: outer words end in the tail or a wedge
+rising = [float(i) for i in range(257)]               # X rises: every word of a layer above 0 is a sample
+heights = [i / 256 for i in range(257)]
+rounds('word 0', falling, heights, [0], (TAIL, SAMPLE))
+rounds('the last word', falling, heights, [MOST, MOST], (WEDGE, WEDGE))
+rounds('the last word of layer 0', falling, heights, [MOST - 255], (TAIL, TAIL))
+rounds('the middle of layer 0', falling, heights, [HALF], (SAMPLE, SAMPLE))
+rounds('the middle of layer 9', rising, heights, [HALF + 9, 1], (SAMPLE, SAMPLE))
+rounds('word 0, rising', rising, heights, [0], (SAMPLE, SAMPLE))
+rounds('the last word, rising', rising, heights, [MOST], (SAMPLE, SAMPLE))
+rounds('a wedge with word 0', falling, heights, [MOST, 0], (WEDGE, WEDGE))
+rounds('a wedge with words left over', falling, heights, [MOST, HALF, 3], (WEDGE, WEDGE))
+rounds('a wedge with one word left', falling, heights, [MOST], (-12, -12))
+rounds('an empty pool', falling, heights, [], (-12, -12))
+rounds('X of 256', falling[:256], heights, [0], (-14, -14))
+rounds('X of 258', falling + [0.0], heights, [0], (-14, -14))
+rounds('no X', [], heights, [0], (-14, -14))
+rounds('F of 256', falling, heights[:256], [0], (-14, -14))
+rounds('F of 258', falling, heights + [0.0], [0], (-14, -14))
+rounds('14 before 12', falling[:256], heights, [], (-14, -14))
+for name, value, kinds in (('NaN', NAN, (WEDGE, WEDGE)), ('infinities', INF, (WEDGE, WEDGE)), ('minus infinities', -INF, (WEDGE, WEDGE)), ('zeros', 0.0, (WEDGE, WEDGE)),
+                           ('minus zeros', -0.0, (WEDGE, WEDGE)), ('the smallest subnormal', TINY, (WEDGE, WEDGE)), ('ones', 1.0, (SAMPLE, SAMPLE))):
+    same = [value] * 257
+    rounds(f'tables of {name}', same, same, [MOST - 4, HALF + 4096], kinds)
+    rounds(f'densities of {name}', falling, same, [MOST, HALF], (WEDGE, WEDGE))
+    rounds(f'tables of {name}, layer 0 of one word', same, same, [MOST - 255], (SAMPLE, SAMPLE) if value == 1.0 else (TAIL, TAIL))
+# where x is just the next edge it is not below it
+rounds('symmetric x at the edge', [1.0] + [0.5] * 256, heights, [word_of(0.75)], (TAIL, TAIL))
+rounds('symmetric x at the edge, negative', [1.0] + [0.5] * 256, heights, [word_of(0.25)], (TAIL, SAMPLE))
+rounds('one-sided x at the edge', [1.0] + [u_of(0, word_of(0.625))] * 256, heights, [word_of(0.625)], (SAMPLE, TAIL))
+rounds('zero at an edge of zero', [0.0] * 257, heights, [HALF + 1, 0], (WEDGE, WEDGE))
+rounds('an infinite edge behind zeros', [0.0] * 256 + [INF], heights, [HALF + 255], (SAMPLE, SAMPLE))
+rounds('a negative x far out', [-4.0] * 256 + [1.0], heights, [255, 0], (WEDGE, SAMPLE))
 
 
 def encoded(call, name, numbers, lent, answer, after):

@@ -1,7 +1,7 @@
 -- One attempt: how it goes a step at a time, that the bound on its steps cuts nothing off, and that it ends at n at most. And the search for the
 -- first attempt that ends: how it goes a word at a time, and what it finds. Assumes nothing.
 use mathlib.Core.Path.{_≡_, refl, sym, ap, _∙_}
-use mathlib.Core.Logic.{_⊎_, inl, inr}
+use mathlib.Core.Logic.{_⊎_, inl, inr, _↔_}
 use mathlib.Core.Bool.{Bool, true, false, cond, _||_}
 use mathlib.Core.List.{List, [], _∷_}
 use Prim.Native.Nat.{ℕ, zero, suc, _+_, _≤_, _<_}
@@ -149,3 +149,11 @@ attempts-mean b pool = go (means b 0 pool)
     go : Means b 0 pool (attempts b pool) → ((attempts b pool ≡ 0) × AllGiveUp b pool) ⊎ ((j : ℕ) × (attempts b pool ≡ suc j) × First b pool j)
     go (inl m) = inl m
     go (inr m) = inr (m .0, m .1 ∙ omega arith, m .2)
+
+-- there are none exactly when the attempt of every word gives up
+pub no-attempt-ends : (b : Binv) (pool : List ℕ) → (attempts b pool ≡ 0) ↔ AllGiveUp b pool
+no-attempt-ends b pool = go (attempts-mean b pool)
+  where
+    go : (((attempts b pool ≡ 0) × AllGiveUp b pool) ⊎ ((j : ℕ) × (attempts b pool ≡ suc j) × First b pool j)) → (attempts b pool ≡ 0) ↔ AllGiveUp b pool
+    go (inl m) = (λ e. m .1, λ h. m .0)
+    go (inr m) = (λ e. absurd (omega (arith, m .1)), λ h. absurd (let z : _≡_ {A = Bool} true false = sym (m .2 .ended) ∙ h (m .0) (m .2 .inside) in let y : _≡_ {A = ℕ} 0 1 = cc in omega arith))

@@ -1,5 +1,6 @@
 // Running the call of a record, and holding its answer and the lent cells after it to what the record says.
 use crate::alias;
+use crate::float;
 use crate::links;
 use crate::record;
 use crate::record::Verdict;
@@ -78,8 +79,11 @@ pub fn run(words: &[u64], room: &mut [u64], spare: &mut [u32], got: &mut [u64; 8
         return Verdict::Malformed;
     }
     let call = record::call(words);
-    if call == 0 || alias::LAST_CALL < call {
+    if call == 0 || float::LAST_CALL < call {
         return Verdict::Malformed;
+    }
+    if alias::LAST_CALL < call {
+        return float::run(call, words, got);
     }
     let cells = lent(words, changed(call));
     let table = lent(words, linked(call));

@@ -4,6 +4,7 @@
 // program says its place, what was expected and what the port gave, and stops.
 mod alias;
 mod call;
+mod float;
 mod input;
 mod links;
 mod record;

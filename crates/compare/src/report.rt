@@ -28,6 +28,9 @@ fn name(call: u64) {
         12 => say(b"alias draw"),
         13 => say(b"alias weights"),
         14 => say(b"alias check"),
+        15 => say(b"binomial new"),
+        16 => say(b"binomial draw"),
+        17 => say(b"ziggurat round"),
         _ => say(b"unknown call"),
     }
 }

@@ -4,6 +4,7 @@ use Prim.Native.Nat.{ℕ}
 use mathlib.Core.Bool.{Bool}
 use mathlib.Core.Path.{_≡_, refl, sym, ap, _∙_}
 use mathlib.Core.List.{List}
+use lib.Ieee.{Float}
 use Rattle.refusal.specs.Outcome.{Outcome, gave, refused}
 use Rattle.refusal.specs.Answers.{drawnTells, Ended}
 use Rattle.refusal.specs.declared.Said.{Said}
@@ -12,7 +13,7 @@ use Rattle.refusal.specs.declared.Weighed.{Weighed}
 use Rattle.refusal.specs.declared.Popped.{Popped}
 use Rattle.refusal.specs.declared.Drawn.{Drawn}
 use Rattle.refusal.specs.declared.Drawing.{Drawing}
-use Rattle.refusal.proofs.Named.{determined, said-determined, counted-determined, weighed-determined, popped-determined, drawn-determined, drawing-determined}
+use Rattle.refusal.proofs.Named.{named, named-number, determined, said-determined, counted-determined, weighed-determined, popped-determined, drawn-determined, drawing-determined}
 use Rattle.words.specs.Below as below
 use Rattle.words.specs.declared.Taken.{Taken}
 use Rattle.words.specs.declared.Taken.the-variants.{Target, Nothing}
@@ -32,8 +33,19 @@ use Rattle.weighted_alias.specs.New as aliasNew
 use Rattle.weighted_alias.specs.Draw as aliasDraw
 use Rattle.alias_checker.specs.Check as aliasCheck
 use Rattle.alias_checker.specs.Weights as aliasWeights
+use Rattle.binomial.specs.declared.Method.{Method}
+use Rattle.binomial.specs.declared.Made.{Made}
+use Rattle.binomial.specs.declared.Made.the-variants as made
+use Rattle.binomial.specs.New as setup
+use Rattle.binomial.specs.Draw as binv
+use Rattle.ziggurat.specs.declared.Rounded.{Rounded}
+use Rattle.ziggurat.specs.declared.Rounded.the-variants as rounded
+use Rattle.ziggurat.specs.declared.Rounding.{Rounding}
+use Rattle.ziggurat.specs.Round.{Shape, sample, tail, wedge, tells}
+use Rattle.ziggurat.specs.Round as round
 
--- ---- answers that a contract gives by an equation: every `numbers` and `number` of the answers, `counting::sum`, `big_endian::number`
+-- ---- answers that a contract gives by an equation: every `numbers` and `number` of the answers, `counting::sum`, `big_endian::number`, and
+-- the floats of `words`
 pub by-equation : {A : Type 0} {value a b : A} → a ≡ value → b ≡ value → a ≡ b
 by-equation p q = p ∙ sym q
 
@@ -101,3 +113,39 @@ alias-check-determined p q = (said-determined _ _ (p .answer) (q .answer), p .wo
 
 pub alias-weights-determined : {odds links output : List ℕ} {S : ℕ} {a b : Counted} {x y : List ℕ} → aliasWeights.Promise odds links S output a x → aliasWeights.Promise odds links S output b y → (a ≡ b) × (x ≡ y)
 alias-weights-determined p q = (counted-determined _ _ (p .answer) (q .answer), p .output-is ∙ sym (q .output-is))
+
+-- ---- the binomial setup and draw
+abbrev madeBack : Outcome Method → Made
+madeBack (gave m) = made.Setup m
+madeBack (refused k) = made.Refused (named k)
+
+made-back : (a : Made) → madeBack (setup.tells a) ≡ a
+made-back (made.Setup m) = refl
+made-back (made.Refused r) = ap made.Refused (named-number r)
+
+pub setup-determined : {n : ℕ} {x : Float} {a b : Made} → setup.Promise n x a → setup.Promise n x b → a ≡ b
+setup-determined {n} {x} {a} {b} p q = determined setup.tells madeBack made-back a b (p .answer) (q .answer)
+
+pub binv-determined : {m : Method} {pool : List ℕ} {a b : Drawing} → binv.Promise m pool a → binv.Promise m pool b → a ≡ b
+binv-determined p q = drawing-determined _ _ (p .answer) (q .answer) (p .words) (q .words)
+
+-- ---- a ziggurat round
+abbrev roundedBack : Outcome Shape → Rounded
+roundedBack (gave (sample x)) = rounded.Sample x
+roundedBack (gave (tail u)) = rounded.Tail u
+roundedBack (gave (wedge x height)) = rounded.Wedge x height
+roundedBack (refused k) = rounded.Refused (named k)
+
+rounded-back : (a : Rounded) → roundedBack (tells a) ≡ a
+rounded-back (rounded.Sample x) = refl
+rounded-back (rounded.Tail u) = refl
+rounded-back (rounded.Wedge x height) = refl
+rounded-back (rounded.Refused r) = ap rounded.Refused (named-number r)
+
+abbrev ended : Rounded → ℕ → Rounding
+ended o k = record { outcome = o; words = k }
+
+pub round-determined : {symmetric : Bool} {X F : List Float} {pool : List ℕ} {a b : Rounding} → round.Promise symmetric X F pool a → round.Promise symmetric X F pool b → a ≡ b
+round-determined {symmetric} {X} {F} {pool} {a} {b} p q =
+    ap (λ (o : Rounded). ended o (a .words)) (determined tells roundedBack rounded-back (a .outcome) (b .outcome) (p .answer) (q .answer))
+    ∙ ap (ended (b .outcome)) (p .words ∙ sym (q .words))

@@ -2,7 +2,7 @@
 -- call is refused for a bad count or for damage. By what each call keeps, one call after the other. Assumes nothing.
 use Prim.Native.Nat.{ℕ, _+_, _-_, _<_}
 use native.Mathlib.Omega.{arith}
-use mathlib.Core.Bool.{Bool, true, false, not}
+use mathlib.Core.Bool.{Bool, true, not}
 use mathlib.Core.Path.{_≡_, refl, sym, ap, _∙_}
 use mathlib.Core.List.{List, [], _∷_}
 use borrow.Author.Tests.{eqb-false, leb-false}
@@ -26,6 +26,7 @@ use Rattle.promises.specs.Tree.{Sound, Holds, answers}
 use Rattle.promises.specs.History.{Call, making, pushing, popping, updating, validity, getting, walking, drawing, soundness, State, given, told, After, Step, Begun, History, NeverTold}
 use Rattle.promises.proofs.Makes.{made-holds}
 use Rattle.promises.proofs.Keeps.{all-sound, pushed-holds, popped-holds, updated-holds}
+use Rattle.promises.proofs.Rows.{clash}
 use Rattle.promises.proofs.Sound.{holds-sound}
 use Rattle.promises.proofs.Counts.{every-target-answered, answers-weight, total-is-sum}
 
@@ -59,9 +60,6 @@ module _ {A : Type 0} (c : Call) (rs : List (ℕ × Bool)) (v : A) (counted : A 
   kept : t′ .store ≡ leaves (inOrder rs (gave v)) changed (t .store) → (None rs → Holds changed (counted v) (given c (t .weights))) → HoldsNow t → once 7 rs ≡ true → (Exactly 7 rs → ⊥) → once 13 rs ≡ true → (Exactly 13 rs → ⊥) → Kept t′ k
   kept q f h one good once-too sound =
       record { holds = keeps q f h; counted-well = untold 7 (omega arith) one good; undamaged = untold 13 (omega arith) once-too sound }
-
-clash : (b : Bool) → b ≡ true → b ≡ false → ⊥
-clash b e q = let z : _≡_ {A = Bool} true false = sym e ∙ q in let y : _≡_ {A = ℕ} 0 1 = cc in omega arith
 
 leaves-same : {A B : Type 0} (o : Outcome A) (x : B) → leaves o x x ≡ x
 leaves-same (gave v) x = refl

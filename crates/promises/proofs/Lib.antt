@@ -9,6 +9,7 @@ pub mod History
 pub mod Rows
 pub mod TreeTable
 pub mod AliasTable
+pub mod FloatTable
 pub mod Determined
 pub mod Stars
 pub mod Balance

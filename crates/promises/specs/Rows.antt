@@ -1,10 +1,12 @@
 -- The rows of the table of refusals, in arithmetic and quantifiers and apart from the tests that the calls' definitions use; and for each call
 -- its rows in their order.
 use Prim.Native.Nat.{ℕ, _+_, _-_, _*_, _/_, _%_, _^_, _<_, _≤_}
+use mathlib.Core.Bool.{Bool, true, false, cond}
 use mathlib.Core.Path.{_≡_}
 use mathlib.Core.Logic.{_⊎_, _↔_}
 use mathlib.Core.List.{List, [], _∷_}
 use lib.ListN.{length, getD, drop}
+use lib.Ieee.{Float, nan, binary64, sub, mul, lt, le, eq}
 use Rattle.counting.specs.Sum.{sumOf}
 use Rattle.refusal.specs.Outcome.{Outcome, refused}
 use Rattle.words.specs.Below.{place, target}
@@ -12,6 +14,11 @@ use Rattle.weighted_tree.specs.Store.{Store, cellAt, weightAt}
 use Rattle.weighted_tree.specs.Path.{parents, pathOf}
 use Rattle.weighted_tree.specs.Walk.{walkPath}
 use Rattle.alias_checker.specs.Shares.{lent}
+use Rattle.binomial.specs.declared.Method.{Method}
+use Rattle.binomial.specs.declared.Method.the-variants.{Constant, Binv}
+use Rattle.binomial.specs.Setup.{nought, one, ten, whole, smaller}
+use Rattle.binomial.specs.Attempt.{hasEnded, attemptBy}
+use Rattle.ziggurat.specs.Round.{uOf, magnitude}
 
 -- a call's numbers with their cases, in order
 abbrev pub Table : Type 1
@@ -181,4 +188,41 @@ AliasWeightsRows odds links S output =
     ∷ (14, Differs n (length links) ⊎ Differs n output)
     ∷ (3, S ≡ 0)
     ∷ (13, ((j : ℕ) × (j < n) × ((getD odds j 0 < S) × (n ≤ getD links j 0))) ⊎ ((i : ℕ) × (i < n) × Exceeds (getD odds i 0 + lent odds links S i)))
+    ∷ []
+
+-- ---- the binomial setup and draw
+-- p is neither constant: the constants come before 16 and 17
+abbrev pub Between : Float → Type 0
+Between p = (eq p nought ≡ false) × (eq p one ≡ false)
+
+abbrev pub SetupRows : ℕ → Float → Table
+SetupRows n p =
+    (5, (lt p nought ≡ true) ⊎ (p ≡ nan))
+    ∷ (6, lt one p ≡ true)
+    ∷ (15, 1048576 < n)
+    ∷ (16, Between p × (le ten (mul binary64 (whole n) (smaller p)) ≡ true))
+    ∷ (17, Between p × (eq (sub binary64 one (smaller p)) one ≡ true))
+    ∷ []
+
+-- a constant needs no word, and else no word's attempt ends
+abbrev pub BinvRows : Method → List ℕ → Table
+BinvRows (Constant c) pool = (15, 1048576 < c) ∷ []
+BinvRows (Binv b) pool =
+    (15, 1048576 < b .n)
+    ∷ (12, (i : ℕ) → i < length pool → hasEnded (attemptBy b (getD pool i 0)) ≡ false)
+    ∷ []
+
+-- ---- a ziggurat round
+-- the first word's x is not below the next edge of its layer, which is not layer 0
+abbrev pub InWedge : Bool → List Float → ℕ → Type 0
+InWedge symmetric X w =
+    let i = w % 256 in
+    let x = mul binary64 (uOf symmetric w) (getD X i nan) in
+    (lt (cond symmetric (magnitude x) x) (getD X (i + 1) nan) ≡ false) × (i ≡ 0 → ⊥)
+
+-- there is no word, or one where two are needed
+abbrev pub RoundRows : Bool → List Float → List Float → List ℕ → Table
+RoundRows symmetric X F pool =
+    (14, Differs 257 (length X) ⊎ Differs 257 (length F))
+    ∷ (12, (length pool ≡ 0) ⊎ ((length pool ≡ 1) × InWedge symmetric X (getD pool 0 0)))
     ∷ []

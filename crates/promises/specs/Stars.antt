@@ -1,8 +1,8 @@
 -- The sixteen cases of docs/RULES.md, in one table: what the definitions give, and what they are to give.
 use Prim.Native.Nat.{ℕ}
-use mathlib.Core.Bool.{Bool, cond}
+use mathlib.Core.Bool.{cond}
 use mathlib.Core.Path.{_≡_}
-use mathlib.Core.List.{List, [], _∷_, _++_, map}
+use mathlib.Core.List.{List, [], _∷_, map}
 use Rattle.refusal.specs.Outcome.{Outcome, gave, refused}
 use Rattle.words.specs.Below.{accepts}
 use Rattle.weighted_tree.specs.Store.{Store}
@@ -12,6 +12,10 @@ use Rattle.weighted_tree.specs.Push as push
 use Rattle.weighted_tree.specs.Update as update
 use Rattle.weighted_tree.specs.Walk as walk
 use Rattle.weighted_alias.specs.New as alias
+use Rattle.binomial.specs.declared.Method.{Method}
+use Rattle.binomial.specs.Setup.{half}
+use Rattle.binomial.specs.New as setup
+use Rattle.binomial.specs.Draw as binv
 
 -- a refusal's number, or 0 and what was given
 abbrev numbers : {A : Type 0} → (A → List ℕ) → Outcome A → List ℕ
@@ -48,6 +52,11 @@ accepted T ws = map (λ w. cond (accepts T w) 1 0) ws
 abbrev lastFive : List ℕ
 lastFive = 18446744073709551615 ∷ 18446744073709551614 ∷ 18446744073709551613 ∷ 18446744073709551612 ∷ 18446744073709551611 ∷ []
 
+-- what a setup draws from a pool of one word
+abbrev drawnWith : Outcome Method → ℕ → List ℕ
+drawnWith (gave m) w = numbers one (binv.rule m (w ∷ []))
+drawnWith (refused k) w = k ∷ []
+
 -- a case: what the definitions give, and what they are to give
 abbrev pub Case : Type 0
 Case = List (List ℕ) × List (List ℕ)
@@ -71,6 +80,11 @@ stars =
     -- T = 6 skips the last four words and takes the fifth-last; T = 1 skips none
     ∷ (accepted 6 lastFive ∷ [], (0 ∷ 0 ∷ 0 ∷ 0 ∷ 1 ∷ []) ∷ [])
     ∷ (accepted 1 lastFive ∷ [], (1 ∷ 1 ∷ 1 ∷ 1 ∷ 1 ∷ []) ∷ [])
+    -- p = 0.5, n = 2: the words of the units 0.5, 0.75 and 0.875 give 1, 1 and 2; n = 20 is refusal 16
+    ∷ (drawnWith (setup.rule 2 half) 9223372036854775808 ∷ [], (0 ∷ 1 ∷ []) ∷ [])
+    ∷ (drawnWith (setup.rule 2 half) 13835058055282163712 ∷ [], (0 ∷ 1 ∷ []) ∷ [])
+    ∷ (drawnWith (setup.rule 2 half) 16140901064495857664 ∷ [], (0 ∷ 2 ∷ []) ∷ [])
+    ∷ (drawnWith (setup.rule 20 half) 0 ∷ [], (16 ∷ []) ∷ [])
     ∷ []
 
 -- every case of a list agrees

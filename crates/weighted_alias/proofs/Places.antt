@@ -5,7 +5,7 @@ use native.Mathlib.Omega.{arith}
 use mathlib.Core.Bool.{Bool, true, false, cond}
 use mathlib.Core.Path.{_≡_, refl, sym, ap, _∙_}
 use mathlib.Core.List.{List, [], _∷_}
-use borrow.Author.Tests.{eq-eqb, ne-eqb, eqb-false, ltb-true, ltb-false}
+use borrow.Author.Tests.{eq-eqb, eqb-false, ltb-true, ltb-false}
 use lib.Dec.{ltb, eqb}
 use lib.ListN.{length, getD, set}
 use lib.Seq.{getD-set-other}
@@ -27,9 +27,6 @@ zero-one false e = absurd (omega arith)
 -- ---- a slot that is on no list
 pub once-self : (x : ℕ) → once x x ≡ 1
 once-self x = rw (eq-eqb x x refl)
-
-pub once-other : (x c : ℕ) → (c ≡ x → ⊥) → once x c ≡ 0
-once-other x c h = rw (ne-eqb x c (λ e. h (sym e)))
 
 -- functions that differ at x alone have the same sum over a list without x
 pub over-same : (x : ℕ) (f g : ℕ → ℕ) (xs : List ℕ) → over (once x) xs ≡ 0 → ((c : ℕ) → (c ≡ x → ⊥) → f c ≡ g c) → over f xs ≡ over g xs

@@ -145,7 +145,7 @@ module _ (T : ℕ) (pool : List ℕ) where
   pub target-below : 0 < place T pool → target T pool < T
   target-below h = mod-lt _ (accepts-some T _ (place-at h))
 
-  -- there is no place exactly when no word of the pool is accepted, and then 12 is given
+  -- there is no place exactly when no word of the pool is accepted
   pub no-place : (place T pool ≡ 0) ↔ AllRefused T pool
   no-place = (λ z. none z place-means, λ h. nowhere h place-means)
     where
@@ -156,13 +156,6 @@ module _ (T : ℕ) (pool : List ℕ) where
       nowhere : AllRefused T pool → (((place T pool ≡ 0) × AllRefused T pool) ⊎ ((j : ℕ) × (place T pool ≡ suc j) × First T pool j)) → place T pool ≡ 0
       nowhere h (inl m) = m .0
       nowhere h (inr m) = let z : _≡_ {A = Bool} true false = sym (m .2 .taken) ∙ h (m .0) (m .2 .inside) in absurd (let n : _≡_ {A = ℕ} 0 1 = cc in omega arith)
-
-  pub out-of-words : (rule T pool ≡ refused 12) ↔ AllRefused T pool
-  unfolding rule
-  out-of-words = (λ e. no-place .0 (eqb-true _ _ (law .0 e)), λ h. law .1 (eq-eqb _ _ (no-place .1 h)))
-    where
-      law : (rule T pool ≡ refused 12) ↔ (eqb (place T pool) 0 ≡ true)
-      law = refuses (below.refusals T pool) (target T pool, place T pool) 12 refl
 
   -- ---- what the function of this crate promises, by where its search ended
   pub nothing : place T pool ≡ 0 → below.Promise pool T Nothing

@@ -1,5 +1,3 @@
--- Laws of the magnitude and of a round; when each refusal is given; and that the answer is determined.
+-- Laws of the magnitude and of a round.
 pub mod Magnitude
 pub mod Promised
-pub mod Determined
-pub mod Exactly
