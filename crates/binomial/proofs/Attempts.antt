@@ -1,22 +1,17 @@
 -- One attempt: how it goes a step at a time, that the bound on its steps cuts nothing off, and that it ends at n at most. And the search for the
 -- first attempt that ends: how it goes a word at a time, and what it finds. Assumes nothing.
-use mathlib.Core.Path.{_≡_, refl, sym, ap, _∙_}
-use mathlib.Core.Logic.{_⊎_, inl, inr, _↔_}
+use mathlib.Core.Path.{_≡_, refl, ap}
 use mathlib.Core.Bool.{Bool, true, false, cond, _||_}
-use mathlib.Core.List.{List, [], _∷_}
 use Prim.Native.Nat.{ℕ, zero, suc, _+_, _≤_, _<_}
-use native.Mathlib.Numerals.{add-one}
 use native.Mathlib.Omega.{arith}
 use borrow.Author.Tests.{lt-ltb, le-ltb, ltb-false}
 use lib.Dec.{ltb}
 use lib.Ieee.{Float, binary64, sub, lt}
-use lib.ListN.{length, getD, drop, drop-of-length-le}
-use lib.Seq.{drop-cons}
 use Rattle.binomial.specs.declared.Binv.{Binv}
 use Rattle.binomial.specs.declared.Attempt.{Attempt}
 use Rattle.binomial.specs.declared.Attempt.the-variants.{Ended, GaveUp}
 use Rattle.binomial.specs.Attempt.{tooFar, nextR, attemptFrom, attemptOf, attemptBy, hasEnded}
-use Rattle.binomial.specs.Draw.{attemptsFrom, attempts}
+use Rattle.binomial.specs.Draw.{ends}
 
 -- ---- where it gives up
 pub past-110 : (n x : ℕ) → 110 < x → tooFar n x ≡ true
@@ -90,70 +85,9 @@ ends-within (suc steps) b x u r true y h e =
 pub attempt-within : (b : Binv) (u : Float) (x : ℕ) → attemptOf b u ≡ Ended x → (x ≤ 110) × (x ≤ b .n)
 attempt-within b u x e = ends-within 111 b 0 u (b .r) (lt (b .r) u) x (omega arith, omega arith) e
 
--- ---- the search, a word at a time
-pub attempts-begin : (b : Binv) (pool : List ℕ) → attemptsFrom b 0 pool ≡ attemptsFrom b 0 (drop 0 pool)
-attempts-begin b [] = refl
-attempts-begin b (w ∷ ws) = refl
+-- ---- whether the attempt of a word ends
+pub ends-yes : (b : Binv) (w x : ℕ) → attemptBy b w ≡ Ended x → ends b w ≡ true
+ends-yes b w x e = ap hasEnded e
 
-module _ (b : Binv) (pool : List ℕ) (i : ℕ) where
-  pub attempts-here : i < length pool → (x : ℕ) → attemptBy b (getD pool i 0) ≡ Ended x → attemptsFrom b i (drop i pool) ≡ i + 1
-  unfolding attemptsFrom
-  attempts-here h x e = rw (drop-cons pool i 0 h, e)
-
-  pub attempts-later : i < length pool → attemptBy b (getD pool i 0) ≡ GaveUp → attemptsFrom b i (drop i pool) ≡ attemptsFrom b (i + 1) (drop (i + 1) pool)
-  unfolding attemptsFrom
-  attempts-later h e = rw (drop-cons pool i 0 h, e) (ap (λ (x : ℕ). attemptsFrom b (i + 1) (drop x pool)) (sym (add-one i)))
-
-  pub attempts-end : length pool ≤ i → attemptsFrom b i (drop i pool) ≡ 0
-  unfolding attemptsFrom
-  attempts-end h = rw (drop-of-length-le pool h)
-
--- ---- what the number of attempts means
--- the attempt of word j, counted from 0, is the first that ends
-pub record First (b : Binv) (pool : List ℕ) (j : ℕ) : Type 0 where
-  pub inside : j < length pool
-  pub ended : hasEnded (attemptBy b (getD pool j 0)) ≡ true
-  pub passed : (i : ℕ) → i < j → hasEnded (attemptBy b (getD pool i 0)) ≡ false
-
-abbrev pub AllGiveUp : Binv → List ℕ → Type 0
-AllGiveUp b pool = (i : ℕ) → i < length pool → hasEnded (attemptBy b (getD pool i 0)) ≡ false
-
-abbrev Means : Binv → ℕ → List ℕ → ℕ → Type 0
-Means b k pool at = ((at ≡ 0) × AllGiveUp b pool) ⊎ ((j : ℕ) × (at ≡ k + suc j) × First b pool j)
-
-gave-up-cons : (b : Binv) (w : ℕ) (ws : List ℕ) → hasEnded (attemptBy b w) ≡ false → AllGiveUp b ws → AllGiveUp b (w ∷ ws)
-gave-up-cons b w ws e h zero k = e
-gave-up-cons b w ws e h (suc i) k = h i (omega arith)
-
-passed-cons : (b : Binv) (w : ℕ) (ws : List ℕ) (j : ℕ) → hasEnded (attemptBy b w) ≡ false → First b ws j → (i : ℕ) → i < suc j → hasEnded (attemptBy b (getD (w ∷ ws) i 0)) ≡ false
-passed-cons b w ws j e f zero k = e
-passed-cons b w ws j e f (suc i) k = f .passed i (omega arith)
-
-means-cons : (b : Binv) (k w : ℕ) (ws : List ℕ) (later : ℕ) (t : Bool) → hasEnded (attemptBy b w) ≡ t → Means b (k + 1) ws later → Means b k (w ∷ ws) (cond t (k + 1) later)
-means-cons b k w ws later true e m =
-    inr (0, omega arith, record { inside = omega arith; ended = e; passed = λ i h. absurd (omega arith) })
-means-cons b k w ws later false e (inl m) = inl (m .0, gave-up-cons b w ws e (m .1))
-means-cons b k w ws later false e (inr m) =
-    inr
-    (suc (m .0), m .1 ∙ omega arith, record { inside = omega (arith, m .2 .inside); ended = m .2 .ended; passed = passed-cons b w ws (m .0) e (m .2) })
-
-means : (b : Binv) (k : ℕ) (pool : List ℕ) → Means b k pool (attemptsFrom b k pool)
-unfolding attemptsFrom
-means b k [] = inl (refl, λ i h. absurd (omega arith))
-means b k (w ∷ ws) = means-cons b k w ws (attemptsFrom b (k + 1) ws) (hasEnded (attemptBy b w)) refl (means b (k + 1) ws)
-
--- every attempt gives up, or the attempts are those up to the first that ends
-pub attempts-mean : (b : Binv) (pool : List ℕ) → ((attempts b pool ≡ 0) × AllGiveUp b pool) ⊎ ((j : ℕ) × (attempts b pool ≡ suc j) × First b pool j)
-attempts-mean b pool = go (means b 0 pool)
-  where
-    go : Means b 0 pool (attempts b pool) → ((attempts b pool ≡ 0) × AllGiveUp b pool) ⊎ ((j : ℕ) × (attempts b pool ≡ suc j) × First b pool j)
-    go (inl m) = inl m
-    go (inr m) = inr (m .0, m .1 ∙ omega arith, m .2)
-
--- there are none exactly when the attempt of every word gives up
-pub no-attempt-ends : (b : Binv) (pool : List ℕ) → (attempts b pool ≡ 0) ↔ AllGiveUp b pool
-no-attempt-ends b pool = go (attempts-mean b pool)
-  where
-    go : (((attempts b pool ≡ 0) × AllGiveUp b pool) ⊎ ((j : ℕ) × (attempts b pool ≡ suc j) × First b pool j)) → (attempts b pool ≡ 0) ↔ AllGiveUp b pool
-    go (inl m) = (λ e. m .1, λ h. m .0)
-    go (inr m) = (λ e. absurd (omega (arith, m .1)), λ h. absurd (let z : _≡_ {A = Bool} true false = sym (m .2 .ended) ∙ h (m .0) (m .2 .inside) in let y : _≡_ {A = ℕ} 0 1 = cc in omega arith))
+pub ends-no : (b : Binv) (w : ℕ) → attemptBy b w ≡ GaveUp → ends b w ≡ false
+ends-no b w e = ap hasEnded e

@@ -1,6 +1,6 @@
 -- The draw from words: the count that a setup gives, and the words it consumes.
-use Prim.Native.Nat.{ℕ, _+_, _-_}
-use mathlib.Core.Bool.{Bool, cond}
+use Prim.Native.Nat.{ℕ, _-_}
+use mathlib.Core.Bool.{Bool}
 use mathlib.Core.Path.{_≡_}
 use mathlib.Core.List.{List, [], _∷_}
 use lib.Dec.{eqb}
@@ -8,19 +8,19 @@ use lib.ListN.{getD}
 use Rattle.refusal.specs.Outcome.{Outcome, gave, inOrder, consumed}
 use Rattle.refusal.specs.Answers.{drawnTells}
 use Rattle.refusal.specs.declared.Drawing.{Drawing}
+use Rattle.words.specs.First.{first}
 use Rattle.binomial.specs.declared.Binv.{Binv}
 use Rattle.binomial.specs.declared.Method.{Method}
 use Rattle.binomial.specs.declared.Method.the-variants as method
 use Rattle.binomial.specs.Tests.{tooManyTrials}
 use Rattle.binomial.specs.Attempt.{attemptBy, hasEnded, endedAt, countOf}
 
--- the attempts made until one ends, each with the next unit, where `made` were made before these words; 0 where the words end first
-unfoldable pub attemptsFrom : Binv → ℕ → List ℕ → ℕ
-attemptsFrom b made [] = 0
-attemptsFrom b made (w ∷ ws) = let later = attemptsFrom b (made + 1) ws in cond (hasEnded (attemptBy b w)) (made + 1) later
+-- the attempts made until one ends, each with the next unit; 0 where the words end first
+abbrev pub ends : Binv → ℕ → Bool
+ends b w = hasEnded (attemptBy b w)
 
 abbrev pub attempts : Binv → List ℕ → ℕ
-attempts b pool = attemptsFrom b 0 pool
+attempts b pool = first (ends b) pool
 
 -- what the last of them ended with
 abbrev pub lastAttempt : Binv → List ℕ → ℕ

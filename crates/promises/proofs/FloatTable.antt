@@ -21,7 +21,7 @@ use Rattle.binomial.specs.Tests.{tooManyTrials}
 use Rattle.binomial.specs.Setup.{nought, one, binvOf}
 use Rattle.binomial.specs.New as new
 use Rattle.binomial.specs.Draw as draw
-use Rattle.binomial.proofs.Attempts.{no-attempt-ends}
+use Rattle.words.proofs.First.{no-first}
 use Rattle.ziggurat.specs.declared.Rounding.{Rounding}
 use Rattle.ziggurat.specs.Round.{sample, tail, wedge, tells, wordsOf, inside, layer, uOf, shapeOf, shape}
 use Rattle.ziggurat.specs.Round as round
@@ -79,7 +79,7 @@ binv-table (method.Constant c) {pool} {r} q =
     (refl, says-less 1048576 c, tt)
 binv-table (method.Binv b) {pool} {r} q =
     rows-kept _ _ (draw.refusals (method.Binv b) pool) (BinvRows (method.Binv b) pool) (draw.used (method.Binv b) pool) 0 (r .words) (q .answer) (q .words)
-    (refl, says-less 1048576 (b .n), (refl, says-as (says-is (draw.attempts b pool) 0) (no-attempt-ends b pool .0) (no-attempt-ends b pool .1), tt))
+    (refl, says-less 1048576 (b .n), (refl, says-as (says-is (draw.attempts b pool) 0) (no-first (draw.ends b) pool .0) (no-first (draw.ends b) pool .1), tt))
 
 -- ---- a round
 module _ (symmetric : Bool) (X F : List Float) (pool : List ℕ) where

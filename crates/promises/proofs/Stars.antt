@@ -3,6 +3,7 @@ use mathlib.Core.Path.{refl}
 use lib.Ieee.{sub, mul, div, lt, le, eq, ofInt, isNan}
 use Rattle.counting.specs.Sum.{sumOf}
 use Rattle.counting.specs.Below.{allBelow}
+use Rattle.words.specs.First.{firstFrom}
 use Rattle.words.specs.Below.{accepts}
 use Rattle.weighted_tree.specs.Store.{cellAt, childrenAt, soundAt, weightAt}
 use Rattle.weighted_tree.specs.Path.{parentsIn, parents, soundAll, changeAll}
@@ -22,5 +23,5 @@ use Rattle.binomial.specs.Draw as binv
 use Rattle.promises.specs.Stars.{stars, AllAgree}
 
 pub stars-agree : AllAgree stars
-unfolding sumOf allBelow accepts cellAt childrenAt soundAt weightAt parentsIn parents soundAll changeAll badCount damaged new.gathered new.changed pop.rule pop.changed push.changed update.changed walk.visited walk.rule tooHeavy alias.split alias.pairUp alias.settle alias.scaled alias.paired alias.oddsOf alias.linksOf alias.rule over sub mul div lt le eq ofInt isNan powerFrom binvOf attemptFrom setup.rule setup.laterRule binv.attemptsFrom binv.rule
+unfolding sumOf allBelow accepts cellAt childrenAt soundAt weightAt parentsIn parents soundAll changeAll badCount damaged new.gathered new.changed pop.rule pop.changed push.changed update.changed walk.visited walk.rule tooHeavy alias.split alias.pairUp alias.settle alias.scaled alias.paired alias.oddsOf alias.linksOf alias.rule over sub mul div lt le eq ofInt isNan powerFrom binvOf attemptFrom setup.rule setup.laterRule firstFrom binv.rule
 stars-agree = (refl, (refl, (refl, (refl, (refl, (refl, (refl, (refl, (refl, (refl, (refl, (refl, (refl, (refl, (refl, (refl, tt))))))))))))))))

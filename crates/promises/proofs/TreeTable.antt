@@ -20,7 +20,7 @@ use Rattle.refusal.specs.declared.Drawing.{Drawing}
 use Rattle.words.specs.Below.{accepts, place}
 use Rattle.words.specs.Below as below
 use Rattle.words.specs.declared.Taken.{Taken}
-use Rattle.words.proofs.Place.{no-place}
+use Rattle.words.proofs.First.{no-first}
 use Rattle.weighted_tree.specs.Store.{Store, total, cellAt, childrenAt, soundAt}
 use Rattle.weighted_tree.specs.Path.{parents, pathOf, soundAll}
 use Rattle.weighted_tree.specs.Tests.{badCount, full, damaged}
@@ -80,8 +80,8 @@ says-accepted T w = says-and _ _ (says-less 0 T) (says-less w (2 ^ 64 - 2 ^ 64 %
 pub says-no-word : (T : ℕ) (pool : List ℕ) → Says (eqb (place T pool) 0) (NoWord T pool)
 says-no-word T pool =
     says-as (says-is (place T pool) 0)
-    (λ z i l a. clash _ (says-accepted T (getD pool i 0) .1 a) (no-place T pool .0 z i l))
-    (λ h. no-place T pool .1 (λ i l. unaccepted i l h (accepts T (getD pool i 0)) refl))
+    (λ z i l a. clash _ (says-accepted T (getD pool i 0) .1 a) (no-first (accepts T) pool .0 z i l))
+    (λ h. no-first (accepts T) pool .1 (λ i l. unaccepted i l h (accepts T (getD pool i 0)) refl))
   where
     unaccepted : (i : ℕ) → i < length pool → NoWord T pool → (b : Bool) → accepts T (getD pool i 0) ≡ b → b ≡ false
     unaccepted i l h true e = absurd (h i l (says-accepted T (getD pool i 0) .0 e))

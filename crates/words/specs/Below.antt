@@ -1,11 +1,12 @@
 -- Words into numbers: which words are accepted for a total T, and the number below T that a pool gives.
-use Prim.Native.Nat.{ℕ, _+_, _-_, _%_, _^_}
-use mathlib.Core.Bool.{Bool, cond, _&&_}
+use Prim.Native.Nat.{ℕ, _-_, _%_, _^_}
+use mathlib.Core.Bool.{Bool, _&&_}
 use mathlib.Core.Path.{_≡_}
 use mathlib.Core.List.{List, [], _∷_}
 use lib.Dec.{ltb, eqb}
 use lib.ListN.{getD}
 use Rattle.refusal.specs.Outcome.{Outcome, gave, refused, inOrder}
+use Rattle.words.specs.First.{first}
 use Rattle.words.specs.declared.Taken.{Taken}
 use Rattle.words.specs.declared.Taken.the-variants.{Target, Nothing}
 
@@ -13,13 +14,9 @@ use Rattle.words.specs.declared.Taken.the-variants.{Target, Nothing}
 unfoldable pub accepts : ℕ → ℕ → Bool
 accepts T w = ltb 0 T && ltb w (2 ^ 64 - 2 ^ 64 % T)
 
--- the place of the first accepted word, counted from one, where k words stand before these; 0 where no word is accepted
-unfoldable pub placeFrom : ℕ → ℕ → List ℕ → ℕ
-placeFrom T k [] = 0
-placeFrom T k (w ∷ ws) = let later = placeFrom T (k + 1) ws in cond (accepts T w) (k + 1) later
-
+-- the place of the first accepted word, counted from one; 0 where no word is accepted
 abbrev pub place : ℕ → List ℕ → ℕ
-place T pool = placeFrom T 0 pool
+place T pool = first (accepts T) pool
 
 -- the word at that place, modulo T
 abbrev pub target : ℕ → List ℕ → ℕ

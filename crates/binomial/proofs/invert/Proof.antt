@@ -6,16 +6,18 @@ use Prim.Native.Nat.{_-_, _≤_}
 use native.Mathlib.Omega.{arith}
 use borrow.Author.Needs.{needs}
 use lib.ListN.{length, drop, getD}
+use Rattle.words.specs.First.{firstFrom}
+use Rattle.words.proofs.First.{first-begins, first-here, first-later, first-ends}
 use Rattle.binomial.specs.declared.Attempt.the-variants.{Ended}
 use Rattle.binomial.specs.Attempt.{attemptOf, attemptBy, countOf}
-use Rattle.binomial.specs.Draw.{attemptsFrom, attempts}
-use Rattle.binomial.proofs.Attempts.{attempt-within, attempts-begin, attempts-here, attempts-later, attempts-end}
+use Rattle.binomial.specs.Draw.{ends, attempts}
+use Rattle.binomial.proofs.Attempts.{attempt-within, ends-yes, ends-no}
 use Rattle.binomial.proofs.Promised.{binv-drawn, binv-out}
 use Rattle.binomial.proofs.invert.Statement.{statement}
 use Rattle.binomial.proofs.invert.Tie as tie
 
 abbrev Inv-loop : tie.InvT-loop
-Inv-loop b pool made₀ made = (made ≤ length pool) × (attempts b pool ≡ attemptsFrom b made (drop made pool))
+Inv-loop b pool made₀ made = (made ≤ length pool) × (attempts b pool ≡ firstFrom (ends b) made (drop made pool))
 
 abbrev μ-loop : tie.MeasureT-loop
 μ-loop b pool made₀ made = length pool - made
@@ -25,7 +27,7 @@ tried : (c : tie.After-try-unit Inv-loop μ-loop) → c .try-unit .result ≡ at
 tried c = c .try-unit .ensures ∙ ap (attemptOf (c .before .before .before .before .before .before .args .b)) (c .before .unit .ensures)
 
 loop-holds : tie.Need-loop-holds Inv-loop μ-loop
-loop-holds c = (omega arith, attempts-begin (c .before .args .b) (c .before .args .pool .now))
+loop-holds c = (omega arith, first-begins (ends (c .before .args .b)) (c .before .args .pool .now))
 
 -- it ended at x
 ended : (c : tie.After-known-told Inv-loop μ-loop) → attemptBy (c .before .before .before .before .before .before .before .before .before .args .b) (getD (c .before .before .before .before .before .before .before .before .before .args .pool .now) (c .before .before .before .before .before .before .before .loop .made) 0) ≡ Ended (c .before .x .given .0 .0)
@@ -40,17 +42,17 @@ count-is c = ⊎-elim (λ w. w .2 ∙ (rw (w .0 .taken))) (λ w. w .1 ∙ (rw (w
 
 returns : tie.Need-returns Inv-loop μ-loop
 returns c =
-    let here = c .before .before .before .before .before .before .before .before .before .loop .inv .1 ∙ attempts-here _ _ _ (c .before .before .before .before .before .before .before .before .loop-test .taken) _ (ended (c .before .before)) in
+    let here = c .before .before .before .before .before .before .before .before .before .loop .inv .1 ∙ first-here (ends _) _ _ (c .before .before .before .before .before .before .before .before .loop-test .taken) (ends-yes _ _ _ (ended (c .before .before))) in
     binv-drawn _ _ _ (c .before .before .before .before .before .before .before .before .before .before .before .pre) _ _ _ here (ended (c .before .before)) (count-is (c .before)) (c .new .ensures)
 
 loop-again : tie.Need-loop-again Inv-loop μ-loop
 loop-again c =
     let gave-up = sym (tried (c .before .before)) ∙ c .enum-told .given .1 in
-    (omega arith, c .before .before .before .before .before .before .loop .inv .1 ∙ attempts-later _ _ _ (c .before .before .before .before .before .loop-test .taken) gave-up)
+    (omega arith, c .before .before .before .before .before .before .loop .inv .1 ∙ first-later (ends _) _ _ (c .before .before .before .before .before .loop-test .taken) (ends-no _ _ gave-up))
 
 returns-2 : tie.Need-returns-2 Inv-loop μ-loop
 returns-2 c =
-    binv-out _ _ _ (c .before .before .before .before .pre) (c .before .before .loop .inv .1 ∙ attempts-end _ _ _ (c .before .loop-test .left)) (c .new2 .ensures)
+    binv-out _ _ _ (c .before .before .before .before .pre) (c .before .before .loop .inv .1 ∙ first-ends (ends _) _ _ (c .before .loop-test .left)) (c .new2 .ensures)
 
 pub invert-spec : {M : Type 1} → statement M
 invert-spec =
