@@ -50,7 +50,7 @@ fn main() {
         let path = folder.join(file);
         println!("cargo::rerun-if-changed={}", path.display());
         let visible = if *public { "pub " } else { "" };
-        text += &format!("#[path = {path:?}]\n#[allow(dead_code)]\n{visible}mod {name};\n");
+        text += &format!("#[path = {path:?}]\n#[allow(dead_code, clippy::all)]\n{visible}mod {name};\n");
     }
     for file in WITHIN {
         println!("cargo::rerun-if-changed={}", folder.join(file).display());

@@ -21,6 +21,15 @@ pub fn trees(sink: &mut Sink, slots: usize, most: u64) {
     }
 }
 
+/// Every tree made from weights of at most `most`, and its walk at every target.
+pub fn walks(sink: &mut Sink, slots: usize, most: u64) {
+    for weights in lists(slots, most) {
+        let mut lent = Lent { store: vec![JUNK; slots], count: 0 };
+        lent.make(sink, &weights);
+        (0..lent.total()).for_each(|target| lent.walk(sink, target));
+    }
+}
+
 /// Every call over stores of any subtotals of at most `most`, sound or not.
 pub fn stores(sink: &mut Sink, cells: usize, most: u64) {
     for mut store in lists(cells, most) {

@@ -6,7 +6,10 @@ mod alias_cases;
 mod binomial;
 mod binomial_cases;
 mod chance;
+mod differences;
 mod exhaustive;
+mod limit_cases;
+mod list;
 mod records;
 mod rules;
 mod script;
@@ -16,6 +19,7 @@ mod tree_cases;
 mod ziggurat_cases;
 mod ziggurat_round;
 
+use records::Sink;
 use std::process::ExitCode;
 
 const USAGE: &str = "usage: harness COMMAND
@@ -23,6 +27,10 @@ const USAGE: &str = "usage: harness COMMAND
   stream [--calls N] [--seed S] [--parts LIST] [--random-only] [--quiet]
           writes N records to standard output: every small case first, then random ones over the whole domain
           LIST: tree,alias,binomial,ziggurat or some of them
+  list FILE
+          writes the fixed list that the gate replays
+  differences
+          runs the inputs at which the port is to differ, and prints what the Rust does there
 ";
 
 /// The value behind an option, as a number.
@@ -51,6 +59,12 @@ fn run(arguments: &[String]) -> Result<(), String> {
                 progress: !has("--quiet"),
             });
             Ok(())
+        }
+        Some("list") => list::list(arguments.get(1).ok_or(USAGE)?),
+        Some("differences") => {
+            let (number, wrong) = differences::all(&mut Sink::new(std::io::sink(), u64::MAX, None), true);
+            println!("{number} inputs, {wrong} not as listed");
+            if wrong == 0 { Ok(()) } else { Err("harness: a difference is not as it is listed\n".into()) }
         }
         _ => Err(USAGE.into()),
     }

@@ -112,14 +112,37 @@ pub struct Sink {
     pub written: u64,
     /// How many records there are of each call with each refusal, by origin.
     pub tally: [[[u64; 2]; 18]; 18],
-    progress: Option<(Instant, u64)>,
+    /// The answer of the last record.
+    pub last: Answer,
+    progress: Option<Progress>,
 }
 
-/// A line of progress stands for so many records.
-const STEP: u64 = 1_000_000;
+/// What is said on standard error while records are written.
+struct Progress {
+    name: String,
+    begun: Instant,
+    shown: Instant,
+}
+
+impl Progress {
+    fn new(name: &str) -> Progress {
+        Progress { name: name.into(), begun: Instant::now(), shown: Instant::now() }
+    }
+
+    /// A line every five seconds; the clock is looked at once in so many records.
+    fn show(&mut self, written: u64, limit: u64) {
+        if written.is_multiple_of(1 << 14) && self.shown.elapsed().as_secs() >= 5 {
+            self.shown = Instant::now();
+            let seconds = self.begun.elapsed().as_secs_f64();
+            let rate = written as f64 / seconds;
+            eprintln!("{}: {written} of {limit} records, {seconds:.0} s, {rate:.0} a second", self.name);
+        }
+    }
+}
 
 impl Sink {
-    pub fn new(out: impl Write + 'static, limit: u64, progress: bool) -> Sink {
+    /// A sink with a limit. Where it has a name, progress is shown under that.
+    pub fn new(out: impl Write + 'static, limit: u64, name: Option<&str>) -> Sink {
         Sink {
             out: Box::new(BufWriter::with_capacity(1 << 18, out)),
             numbers: Vec::new(),
@@ -127,7 +150,8 @@ impl Sink {
             limit,
             written: 0,
             tally: [[[0; 2]; 18]; 18],
-            progress: progress.then(|| (Instant::now(), STEP)),
+            last: Answer::rules(&[]),
+            progress: name.map(Progress::new),
         }
     }
 
@@ -159,7 +183,10 @@ impl Sink {
         self.out.write_all(&self.bytes).unwrap_or_else(|why| gone(&why));
         self.written += 1;
         self.tally[call.code as usize][answer.refusal as usize][answer.origin as usize] += 1;
-        self.show();
+        self.last.clone_from(answer);
+        if let Some(progress) = &mut self.progress {
+            progress.show(self.written, self.limit);
+        }
     }
 
     fn list(&mut self, numbers: &[u64]) {
@@ -167,15 +194,9 @@ impl Sink {
         self.numbers.extend_from_slice(numbers);
     }
 
-    fn show(&mut self) {
-        if let Some((since, next)) = &mut self.progress
-            && self.written >= *next
-        {
-            *next += STEP;
-            let seconds = since.elapsed().as_secs_f64();
-            let rate = self.written as f64 / seconds;
-            eprintln!("{} of {} records, {seconds:.0} s, {rate:.0} a second", self.written, self.limit);
-        }
+    /// How many records have the Rust's answers, and how many the rules', of one call.
+    pub fn origins(&self, call: usize) -> [u64; 2] {
+        [0, 1].map(|origin: usize| self.tally[call].iter().map(|by| by[origin]).sum())
     }
 
     /// Everything is handed on.

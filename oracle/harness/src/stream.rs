@@ -63,17 +63,13 @@ pub fn session(sink: &mut Sink, chance: &mut Chance, tables: &Tables, part: Part
 }
 
 pub fn stream(wanted: &Wanted) {
-    eprintln!("seed {}, {} records", wanted.seed, wanted.calls);
-    let mut sink = Sink::new(std::io::stdout(), wanted.calls, wanted.progress);
+    let name = format!("seed {}", wanted.seed);
+    let mut sink = Sink::new(std::io::stdout(), wanted.calls, wanted.progress.then_some(&name));
     let mut chance = Chance::new(wanted.seed);
     let tables = Tables::new(&mut chance, 4096);
     if wanted.small_ones {
         exhaustive::all(&mut sink);
-        if sink.full() {
-            eprintln!("the small cases alone are more than these");
-        } else {
-            eprintln!("{} records of small cases", sink.written);
-        }
+        eprintln!("{name}: {} records of small cases{}", sink.written, if sink.full() { ", not all of them" } else { "" });
     }
     while !sink.full() {
         let part = chance.of(&SHARES);
@@ -82,16 +78,6 @@ pub fn stream(wanted: &Wanted) {
         }
     }
     sink.finish();
-    summary(&sink);
-}
-
-/// How many records of each call were written, and whose answers they have.
-pub fn summary(sink: &Sink) {
-    for (call, name) in NAMES.iter().enumerate().skip(1) {
-        let count = |origin: usize| sink.tally[call].iter().map(|by| by[origin]).sum::<u64>();
-        let (rust, rules) = (count(0), count(1));
-        if rust + rules > 0 {
-            eprintln!("{name}: {} written, {rust} of them the Rust's answers, {rules} the rules'", rust + rules);
-        }
-    }
+    let rust: u64 = (1..NAMES.len()).map(|call| sink.origins(call)[0]).sum();
+    eprintln!("{name}: {} records, {rust} of them with the Rust's answers, the others by the rules", sink.written);
 }

@@ -7,9 +7,10 @@ use crate::tree::{self, Lent};
 /// How many slots: mostly a few, at times many.
 pub fn size(chance: &mut Chance) -> usize {
     match chance.below(2048) {
-        0 => chance.index(4097),
-        1..=40 => chance.index(65),
-        41..=400 => chance.index(17),
+        0 => chance.near(rules::MOST_SLOTS) as usize,
+        1..=3 => chance.index(4097),
+        4..=100 => chance.index(65),
+        101..=500 => chance.index(17),
         _ => chance.index(9),
     }
 }

@@ -1,6 +1,5 @@
 //! The root over rand_distr's own files. Its own root names modules that are not wanted here; what stands below is what
 //! the compiled files import from it. The files are compiled as they are, from where they lie.
-#![allow(clippy::all)]
 
 extern crate alloc;
 
