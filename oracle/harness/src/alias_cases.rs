@@ -2,7 +2,7 @@
 use crate::alias::{self, Table};
 use crate::chance::Chance;
 use crate::records::Sink;
-use crate::tree_cases::{junk, length, pool, size, weights};
+use crate::tree_cases::{junk, length, pool, weights};
 
 const END: u64 = u32::MAX as u64;
 
@@ -69,9 +69,8 @@ fn weigh_and_check(sink: &mut Sink, chance: &mut Chance, table: &Table, weights:
     table.check(sink, weights, &junk(chance, work));
 }
 
-/// A table that is made, read and drawn from; then a stranger's.
-pub fn session(sink: &mut Sink, chance: &mut Chance) {
-    let n = if chance.one_in(100) { 0 } else { size(chance).max(1) };
+/// A table of n slots that is made, read and drawn from; then a stranger's.
+pub fn session(sink: &mut Sink, chance: &mut Chance, n: usize) {
     let weights = weights(chance, n);
     let (odds, slots) = (length(chance, n), length(chance, n));
     let (odds, slots) = (junk(chance, odds), links(chance, slots));

@@ -10,7 +10,7 @@ const BTPE: u64 = 1;
 const POISSON: u64 = 2;
 const CONSTANT: u64 = 3;
 
-/// A setup as it is lent to a draw: `made` has r by the rules' power, the rest is the Rust's.
+/// A setup as it is lent to a draw. One that `make` answers has r by the rules' power; the rest of it is the Rust's.
 #[derive(Clone, Copy, Debug)]
 pub enum Setup {
     Constant(u64),
@@ -54,9 +54,8 @@ pub fn make(sink: &mut Sink, n: u64, p: f64) -> Option<Setup> {
 }
 
 fn made(n: u64, p: f64) -> (Answer, Option<Setup>) {
-    // 5 and 6 come first, whatever n is; the Rust is asked for more trials than the rules have only to tell these
-    let probability = Binomial::new(n.min(rules::MOST_TRIALS), p);
-    let binomial = match probability {
+    // 5 and 6 come before 15, so the Rust is asked with any n
+    let binomial = match Binomial::new(n, p) {
         Err(BinomialError::ProbabilityTooSmall) => return (Answer::refused_by_rust(5), None),
         Err(BinomialError::ProbabilityTooLarge) => return (Answer::refused_by_rust(6), None),
         Err(_) => unreachable!("the Rust has two errors"),

@@ -19,7 +19,7 @@ fn trials(chance: &mut Chance) -> u64 {
 fn probability(chance: &mut Chance, n: u64) -> f64 {
     let most = (10.0 / (n as f64).max(1.0)).min(0.5);
     let small = chance.unit() * most;
-    let edges = [0.5, most, 1.0 - most, f64::EPSILON / 2.0, f64::EPSILON / 4.0, 1.0 - f64::EPSILON / 2.0];
+    let edges = [0.0, 1.0, 0.5, most, 1.0 - most, f64::EPSILON / 2.0, f64::EPSILON / 4.0, 1.0 - f64::EPSILON / 2.0];
     match chance.below(16) {
         0 => chance.float(),
         1 => f64::from_bits(chance.word()),

@@ -30,7 +30,10 @@ const REFUSALS: [&[usize]; 18] = [
 
 /// Random sessions of each part, as many as the size of the list allows.
 const SESSIONS: [(Part, usize); 4] =
-    [(Part::Tree, 150), (Part::Alias, 120), (Part::Binomial, 500), (Part::Ziggurat, 25)];
+    [(Part::Tree, 180), (Part::Alias, 150), (Part::Binomial, 800), (Part::Ziggurat, 12)];
+
+/// They have fewer slots than this.
+const SLOTS: usize = 8;
 
 const SEED: u64 = 6;
 
@@ -84,7 +87,8 @@ pub fn list(file: &str) -> Result<(), String> {
     small(&mut sink);
     for (part, sessions) in SESSIONS {
         for _ in 0..sessions {
-            session(&mut sink, &mut chance, &tables, part);
+            let n = chance.index(SLOTS);
+            session(&mut sink, &mut chance, &tables, part, n);
         }
     }
     sink.finish();

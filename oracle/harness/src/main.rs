@@ -14,6 +14,8 @@ mod records;
 mod rules;
 mod script;
 mod stream;
+#[cfg(test)]
+mod tests;
 mod tree;
 mod tree_cases;
 mod ziggurat_cases;

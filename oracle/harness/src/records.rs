@@ -96,6 +96,9 @@ fn size_of_answer(call: u64) -> usize {
     }
 }
 
+/// What a record may have behind its first number.
+const MOST_NUMBERS: usize = 32_768;
+
 /// A call as it is recorded, without its answer.
 pub struct Call<'a> {
     pub code: u64,
@@ -177,6 +180,7 @@ impl Sink {
         for i in 0..2 {
             self.list(after.get(i).copied().unwrap_or_default());
         }
+        assert!(self.numbers.len() <= MOST_NUMBERS + 1, "compare can't hold this record");
         self.numbers[0] = self.numbers.len() as u64 - 1;
         self.bytes.clear();
         self.bytes.extend(self.numbers.iter().flat_map(|number| number.to_be_bytes()));

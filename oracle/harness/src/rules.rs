@@ -125,7 +125,7 @@ pub fn fair(weights: &[u64], odds: &[u64], links: &[u64]) -> bool {
 }
 
 /// The pairs of each index, counted one by one.
-fn counted(odds: &[u64], links: &[u64], sum: u64) -> Vec<u128> {
+pub fn counted(odds: &[u64], links: &[u64], sum: u64) -> Vec<u128> {
     let mut pairs = vec![0; odds.len()];
     for slot in 0..odds.len() {
         for number in 0..sum {
@@ -138,7 +138,7 @@ fn counted(odds: &[u64], links: &[u64], sum: u64) -> Vec<u128> {
 }
 
 /// The same by what each slot keeps and what it gives away.
-fn summed(odds: &[u64], links: &[u64], sum: u128) -> Vec<u128> {
+pub fn summed(odds: &[u64], links: &[u64], sum: u128) -> Vec<u128> {
     let mut pairs = vec![0; odds.len()];
     for slot in 0..odds.len() {
         let kept = sum.min(u128::from(odds[slot]));

@@ -31,32 +31,25 @@ pub fn parts(list: &str) -> Result<Vec<Part>, String> {
     list.split(',').map(part).collect()
 }
 
-/// Which part a session is of. A session of a tree has some 25 records, of a table 15, of a setup 5 and of the ziggurat
-/// 2 large ones: so that of the records about a half are the tree's, a quarter the tables', and 3 in 100 rounds.
-const SHARES: [Part; 100] = {
-    let mut shares = [Part::Tree; 100];
-    let mut i = 20;
-    while i < 100 {
-        shares[i] = if i < 38 {
-            Part::Alias
-        } else if i < 85 {
-            Part::Binomial
-        } else {
-            Part::Ziggurat
-        };
-        i += 1;
+/// Which part a session is of, in a hundred. A session of a tree has some 25 records, of a table 15, of a setup 4 and of
+/// the ziggurat 2 large ones: so about 4 records in 10 are the tree's, 3 the tables', 2 the setups' and 1 in 20 a round.
+fn part(chance: &mut Chance) -> Part {
+    match chance.below(100) {
+        0..=14 => Part::Tree,
+        15..=33 => Part::Alias,
+        34..=77 => Part::Binomial,
+        _ => Part::Ziggurat,
     }
-    shares
-};
+}
 
-/// One session of a part.
-pub fn session(sink: &mut Sink, chance: &mut Chance, tables: &Tables, part: Part) {
+/// One session of a part, with n slots where it has any.
+pub fn session(sink: &mut Sink, chance: &mut Chance, tables: &Tables, part: Part, n: usize) {
     match part {
         Part::Tree => {
-            tree_cases::session(sink, chance);
+            tree_cases::session(sink, chance, n);
             tree_cases::numbers(sink, chance);
         }
-        Part::Alias => alias_cases::session(sink, chance),
+        Part::Alias => alias_cases::session(sink, chance, n),
         Part::Binomial => binomial_cases::session(sink, chance),
         Part::Ziggurat => ziggurat_cases::session(sink, chance, tables),
     }
@@ -72,9 +65,10 @@ pub fn stream(wanted: &Wanted) {
         eprintln!("{name}: {} records of small cases{}", sink.written, if sink.full() { ", not all of them" } else { "" });
     }
     while !sink.full() {
-        let part = chance.of(&SHARES);
+        let part = part(&mut chance);
         if wanted.parts.contains(&part) {
-            session(&mut sink, &mut chance, &tables, part);
+            let n = tree_cases::size(&mut chance);
+            session(&mut sink, &mut chance, &tables, part, n);
         }
     }
     sink.finish();

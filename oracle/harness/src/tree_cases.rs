@@ -7,10 +7,10 @@ use crate::tree::{self, Lent};
 /// How many slots: mostly a few, at times many.
 pub fn size(chance: &mut Chance) -> usize {
     match chance.below(2048) {
-        0 => chance.near(rules::MOST_SLOTS) as usize,
-        1..=3 => chance.index(4097),
-        4..=100 => chance.index(65),
-        101..=500 => chance.index(17),
+        0..=1 => chance.near(rules::MOST_SLOTS) as usize,
+        2..=7 => chance.index(4097),
+        8..=150 => chance.index(65),
+        151..=600 => chance.index(17),
         _ => chance.index(9),
     }
 }
@@ -19,6 +19,8 @@ pub fn size(chance: &mut Chance) -> usize {
 pub fn weights(chance: &mut Chance, n: usize) -> Vec<u64> {
     let most = u64::MAX / (n as u64).max(1);
     let shape = chance.below(9);
+    // the bits that a sum of n such powers of two has room for
+    let bits = u64::from((n as u64).leading_zeros());
     let same = chance.any_size();
     let mut list: Vec<u64> = (0..n)
         .map(|_| match shape {
@@ -27,7 +29,7 @@ pub fn weights(chance: &mut Chance, n: usize) -> Vec<u64> {
             2 => same.min(most),
             3 => 1 + chance.below(3),
             4 => chance.below(4) / 3 * chance.below(9),
-            5 => 1 << chance.below(64),
+            5 => 1 << chance.below(bits),
             6 => most - chance.below(3).min(most),
             7 => chance.any_size().min(most),
             _ => chance.any_size(),
@@ -162,9 +164,8 @@ fn draw(sink: &mut Sink, chance: &mut Chance, lent: &Lent) {
     lent.draw(sink, &words);
 }
 
-/// A tree that is made, perhaps damaged, and then changed, read and drawn from.
-pub fn session(sink: &mut Sink, chance: &mut Chance) {
-    let n = size(chance);
+/// A tree of n slots that is made, perhaps damaged, and then changed, read and drawn from.
+pub fn session(sink: &mut Sink, chance: &mut Chance, n: usize) {
     let weights = weights(chance, n);
     let length = if chance.one_in(40) { length(chance, n) } else { n + chance.index(8) };
     let mut lent = Lent { store: junk(chance, length), count: 0 };
