@@ -30,11 +30,7 @@ impl Table {
     fn of(table: &WeightedAliasIndex<u64>) -> Table {
         let numbers = serde::saved(table);
         let n = numbers[0] as usize;
-        Table {
-            links: numbers[1..=n].to_vec(),
-            odds: numbers[n + 2..2 * n + 2].to_vec(),
-            sum: numbers[2 * n + 6],
-        }
+        Table { links: numbers[1..=n].to_vec(), odds: numbers[n + 2..2 * n + 2].to_vec(), sum: numbers[2 * n + 6] }
     }
 
     fn lengths(&self) -> [usize; 1] {
@@ -79,7 +75,8 @@ impl Table {
             after = table_of(&self.odds, &self.links, self.sum).weights();
             Answer::rust(&[after.len() as u64])
         };
-        let call = Call { code: records::ALIAS_WEIGHTS, numbers: &[self.sum], lent: &[&self.odds, &self.links, output] };
+        let call =
+            Call { code: records::ALIAS_WEIGHTS, numbers: &[self.sum], lent: &[&self.odds, &self.links, output] };
         sink.put(&call, &answer, &[&after]);
     }
 

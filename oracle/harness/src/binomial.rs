@@ -84,7 +84,9 @@ impl Setup {
     /// Draws with a pool, attempt by attempt.
     pub fn draw(&self, sink: &mut Sink, pool: &[u64]) {
         let answer = match *self {
-            Setup::Constant(trials) | Setup::Binv { n: trials, .. } if trials > rules::MOST_TRIALS => Answer::refused(15),
+            Setup::Constant(trials) | Setup::Binv { n: trials, .. } if trials > rules::MOST_TRIALS => {
+                Answer::refused(15)
+            }
             // the Rust draws no unit for a constant
             Setup::Constant(constant) => {
                 let binomial: Binomial = serde::loaded(&[CONSTANT, constant]);

@@ -33,7 +33,14 @@ pub struct Shown<'a> {
 
 impl Shown<'_> {
     /// One difference. `record` puts the record of the same input, whose answer is what the port is to give.
-    fn one<T: Debug>(&mut self, input: &str, rust: impl FnOnce() -> T, says: &str, port: &str, record: impl FnOnce(&mut Sink)) {
+    fn one<T: Debug>(
+        &mut self,
+        input: &str,
+        rust: impl FnOnce() -> T,
+        says: &str,
+        port: &str,
+        record: impl FnOnce(&mut Sink),
+    ) {
         let rust = seen(rust);
         record(self.sink);
         let last = &self.sink.last;
@@ -68,7 +75,9 @@ const ADDS: &str = "panics: attempt to add with overflow";
 fn unsound_cells(shown: &mut Shown) {
     for cells in [&[0, 1][..], &[5, 6, 0]] {
         let get = || tree_of(cells).get(0);
-        shown.one(&format!("get(0) on subtotals {cells:?}"), get, SUBTRACTS, "refusal 13", |sink| lent(cells).get(sink, 0));
+        shown.one(&format!("get(0) on subtotals {cells:?}"), get, SUBTRACTS, "refusal 13", |sink| {
+            lent(cells).get(sink, 0)
+        });
         let update = || tree_of(cells).update(0, 1);
         let input = format!("update(0, 1) on subtotals {cells:?}");
         shown.one(&input, update, SUBTRACTS, "refusal 13", |sink| lent(cells).update(sink, 0, 1));
@@ -105,7 +114,13 @@ fn indexes_and_sizes(shown: &mut Shown) {
     let made = || tree_of(&[1]);
     let beyond = "panics: index out of bounds: the len is 1 but the index is 1";
     shown.one("get(1) of one slot", || made().get(1), beyond, "refusal 8", |sink| lent(&[1]).get(sink, 1));
-    shown.one("update(1, 0) of one slot", || made().update(1, 0), beyond, "refusal 8", |sink| lent(&[1]).update(sink, 1, 0));
+    shown.one(
+        "update(1, 0) of one slot",
+        || made().update(1, 0),
+        beyond,
+        "refusal 8",
+        |sink| lent(&[1]).update(sink, 1, 0),
+    );
     let nothing = "panics: called `Result::unwrap()` on an `Err` value: InsufficientNonZero";
     let sample = || tree_of(&[0]).sample(&mut Script::empty());
     shown.one("a sample of subtotals [0]", sample, nothing, "refusal 3", |sink| lent(&[0]).draw(sink, &[0]));
@@ -193,9 +208,15 @@ fn power(shown: &mut Shown) {
     let differ = |n: u64, p: f64| own(n, p).to_bits() != rules::power(q_of(p), n).to_bits();
     let input = "r of n = 3, p = 0.4 by powf is not r by the power rule; for n = 0, 1, 2 it is, for p = 0.001 to 1";
     let below = (0..=2).any(|n| (1..1000).any(|thousandth| differ(n, f64::from(thousandth) / 1000.0)));
-    shown.one(input, || (differ(3, 0.4), below), "(true, false)", "answers 1, 3", |sink| {
-        binomial::make(sink, 3, 0.4);
-    });
+    shown.one(
+        input,
+        || (differ(3, 0.4), below),
+        "(true, false)",
+        "answers 1, 3",
+        |sink| {
+            binomial::make(sink, 3, 0.4);
+        },
+    );
 }
 
 /// A lent setup of no trials whose attempt with the unit 0.5 counts 1.

@@ -1,6 +1,7 @@
 //! Every case of the small ones: trees and tables of a few slots with small weights, at every target and every pair.
 use crate::alias::{self, Table};
 use crate::records::Sink;
+use crate::stream::Part;
 use crate::tree::Lent;
 
 /// What a lent cell holds that is to be overwritten, or left alone.
@@ -101,16 +102,16 @@ pub fn strangers(sink: &mut Sink, slots: usize, most: u64) {
     }
 }
 
-/// All of it, as the long run begins.
-pub fn all(sink: &mut Sink) {
-    for slots in 0..=4 {
-        trees(sink, slots, 3);
-        tables(sink, slots, 3);
+/// All of it, as the long run begins, for the parts that are wanted.
+pub fn all(sink: &mut Sink, parts: &[Part]) {
+    if parts.contains(&Part::Tree) {
+        (0..=4).for_each(|slots| trees(sink, slots, 3));
+        (1..=4).for_each(|cells| stores(sink, cells, 5));
     }
-    for cells in 1..=4 {
-        stores(sink, cells, 5);
+    if parts.contains(&Part::Alias) {
+        (0..=4).for_each(|slots| tables(sink, slots, 3));
+        strangers(sink, 1, 3);
+        strangers(sink, 2, 3);
+        strangers(sink, 3, 1);
     }
-    strangers(sink, 1, 3);
-    strangers(sink, 2, 3);
-    strangers(sink, 3, 1);
 }

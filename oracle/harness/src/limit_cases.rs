@@ -77,7 +77,8 @@ fn words(sink: &mut Sink) {
     for total in [0, 1, 2, 3, 6, HALF - 1, HALF, HALF + 1, MOST - 1, MOST] {
         let first = if total == 0 { 0 } else { 0u64.wrapping_sub(rules::spill(total)) };
         let lent = Lent { store: vec![total, 1], count: 2 };
-        let pools = [vec![], vec![0], vec![first], vec![first.wrapping_sub(1)], vec![MOST], vec![MOST, first, total / 2, 5]];
+        let pools =
+            [vec![], vec![0], vec![first], vec![first.wrapping_sub(1)], vec![MOST], vec![MOST, first, total / 2, 5]];
         for pool in pools {
             tree::number_below(sink, total, &pool);
             lent.draw(sink, &pool);
@@ -141,8 +142,27 @@ fn full_table(sink: &mut Sink) {
 fn setups(sink: &mut Sink) {
     let half = f64::EPSILON / 2.0;
     let probabilities = [
-        0.0, -0.0, -5e-324, 5e-324, half / 2.0, (half / 2.0).next_up(), half, 0.001, 0.3, 0.5, 0.5f64.next_up(), 0.9, 1.0 - half,
-        1.0, 1.0f64.next_up(), -1.0, f64::NAN, -f64::NAN, f64::INFINITY, f64::NEG_INFINITY, f64::MIN_POSITIVE,
+        0.0,
+        -0.0,
+        -5e-324,
+        5e-324,
+        half / 2.0,
+        (half / 2.0).next_up(),
+        half,
+        0.001,
+        0.3,
+        0.5,
+        0.5f64.next_up(),
+        0.9,
+        1.0 - half,
+        1.0,
+        1.0f64.next_up(),
+        -1.0,
+        f64::NAN,
+        -f64::NAN,
+        f64::INFINITY,
+        f64::NEG_INFINITY,
+        f64::MIN_POSITIVE,
     ];
     for p in probabilities {
         for n in [0, 1, 2, 3, 19, 20, 110, rules::MOST_TRIALS, rules::MOST_TRIALS + 1, MOST] {

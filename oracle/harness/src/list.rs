@@ -37,8 +37,8 @@ const SLOTS: usize = 8;
 
 const SEED: u64 = 6;
 
-/// The small cases: every target of up to 4 slots with weights 0 to 3, every pair and every change of up to 3 slots, and
-/// every pair of 4 slots with weights 0 to 2. The long run has what is left out here.
+/// The small cases: every target of up to 4 slots with weights 0 to 3, every pair and every change of up to 3 slots,
+/// and every pair of 4 slots with weights 0 to 2. The long run has what is left out here.
 fn small(sink: &mut Sink) {
     for slots in 0..=3 {
         exhaustive::trees(sink, slots, 3);

@@ -8,6 +8,7 @@ mod binomial_cases;
 mod chance;
 mod differences;
 mod exhaustive;
+mod judge;
 mod limit_cases;
 mod list;
 mod records;
@@ -23,6 +24,7 @@ mod ziggurat_round;
 
 use records::Sink;
 use std::process::ExitCode;
+use stream::{Part, Wanted};
 
 const USAGE: &str = "usage: harness COMMAND
 
@@ -31,50 +33,57 @@ const USAGE: &str = "usage: harness COMMAND
           LIST: tree,alias,binomial,ziggurat or some of them
   list FILE
           writes the fixed list that the gate replays
+  judge FILE
+          asks the Rust again for every record of a list, and says whether it comes out the same
   differences
           runs the inputs at which the port is to differ, and prints what the Rust does there
 ";
 
-/// The value behind an option, as a number.
-fn number(arguments: &[String], option: &str, default: u64) -> Result<u64, String> {
-    match text(arguments, option) {
-        Some(value) => value.replace(['_', ','], "").parse().map_err(|_| format!("{option} wants a number")),
-        None => Ok(default),
+/// The options of `stream`.
+fn wanted(mut options: impl Iterator<Item = String>) -> Result<Wanted, String> {
+    let mut wanted = Wanted { calls: 1_000_000, seed: 1, parts: Part::ALL.to_vec(), small_ones: true, progress: true };
+    while let Some(option) = options.next() {
+        let mut value = || options.next().ok_or_else(|| format!("{option} wants a value\n"));
+        let number = |value: String| value.parse().map_err(|_| format!("{value} is no number\n"));
+        match option.as_str() {
+            "--calls" => wanted.calls = value().and_then(number)?,
+            "--seed" => wanted.seed = value().and_then(number)?,
+            "--parts" => wanted.parts = stream::parts(&value()?)?,
+            "--random-only" => wanted.small_ones = false,
+            "--quiet" => wanted.progress = false,
+            _ => return Err(USAGE.into()),
+        }
     }
+    Ok(wanted)
 }
 
-fn text<'a>(arguments: &'a [String], option: &str) -> Option<&'a str> {
-    let at = arguments.iter().position(|argument| argument == option)?;
-    arguments.get(at + 1).map(String::as_str)
+fn judge(file: &str) -> Result<(), String> {
+    let bytes = std::fs::read(file).map_err(|why| format!("{file}: {why}\n"))?;
+    let [all, rust] = judge::judge(&bytes)?;
+    println!("{all} records come out the same, {rust} of them with the Rust's answers");
+    Ok(())
 }
 
-fn run(arguments: &[String]) -> Result<(), String> {
-    let has = |option: &str| arguments.iter().any(|argument| argument == option);
-    match arguments.first().map(String::as_str) {
-        Some("stream") => {
-            let parts = text(arguments, "--parts").unwrap_or("tree,alias,binomial,ziggurat");
-            stream::stream(&stream::Wanted {
-                calls: number(arguments, "--calls", 1_000_000)?,
-                seed: number(arguments, "--seed", 1)?,
-                parts: stream::parts(parts)?,
-                small_ones: !has("--random-only"),
-                progress: !has("--quiet"),
-            });
-            Ok(())
-        }
-        Some("list") => list::list(arguments.get(1).ok_or(USAGE)?),
-        Some("differences") => {
-            let (number, wrong) = differences::all(&mut Sink::new(std::io::sink(), u64::MAX, None), true);
-            println!("{number} inputs, {wrong} not as listed");
-            if wrong == 0 { Ok(()) } else { Err("harness: a difference is not as it is listed\n".into()) }
-        }
-        _ => Err(USAGE.into()),
+fn differences() -> Result<(), String> {
+    let (number, wrong) = differences::all(&mut Sink::new(std::io::sink(), u64::MAX, None), true);
+    println!("{number} inputs, {wrong} not as listed");
+    if wrong == 0 { Ok(()) } else { Err("harness: a difference is not as it is listed\n".into()) }
+}
+
+fn run(mut arguments: impl Iterator<Item = String>) -> Result<(), String> {
+    let command = arguments.next().ok_or(USAGE)?;
+    match command.as_str() {
+        "stream" => stream::stream(&wanted(arguments)?),
+        "list" => list::list(&arguments.next().ok_or(USAGE)?)?,
+        "judge" => judge(&arguments.next().ok_or(USAGE)?)?,
+        "differences" => differences()?,
+        _ => return Err(USAGE.into()),
     }
+    Ok(())
 }
 
 fn main() -> ExitCode {
-    let arguments: Vec<String> = std::env::args().skip(1).collect();
-    match run(&arguments) {
+    match run(std::env::args().skip(1)) {
         Ok(()) => ExitCode::SUCCESS,
         Err(why) => {
             eprint!("{why}");

@@ -198,6 +198,11 @@ impl Sink {
         self.numbers.extend_from_slice(numbers);
     }
 
+    /// The bytes of the last record.
+    pub fn bytes(&self) -> &[u8] {
+        &self.bytes
+    }
+
     /// How many records have the Rust's answers, and how many the rules', of one call.
     pub fn origins(&self, call: usize) -> [u64; 2] {
         [0, 1].map(|origin: usize| self.tally[call].iter().map(|by| by[origin]).sum())

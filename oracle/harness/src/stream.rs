@@ -12,6 +12,10 @@ pub enum Part {
     Ziggurat,
 }
 
+impl Part {
+    pub const ALL: [Part; 4] = [Part::Tree, Part::Alias, Part::Binomial, Part::Ziggurat];
+}
+
 pub struct Wanted {
     pub calls: u64,
     pub seed: u64,
@@ -31,8 +35,8 @@ pub fn parts(list: &str) -> Result<Vec<Part>, String> {
     list.split(',').map(part).collect()
 }
 
-/// Which part a session is of, in a hundred. A session of a tree has some 25 records, of a table 15, of a setup 4 and of
-/// the ziggurat 2 large ones: so about 4 records in 10 are the tree's, 3 the tables', 2 the setups' and 1 in 20 a round.
+/// Which part a session is of, in a hundred. A session of a tree has some 25 records, of a table 15, of a setup 4 and
+/// of the ziggurat 2 large ones: about 4 records in 10 are the tree's, 3 the tables', 2 the setups' and 1 in 20 a round.
 fn part(chance: &mut Chance) -> Part {
     match chance.below(100) {
         0..=14 => Part::Tree,
@@ -61,8 +65,12 @@ pub fn stream(wanted: &Wanted) {
     let mut chance = Chance::new(wanted.seed);
     let tables = Tables::new(&mut chance, 4096);
     if wanted.small_ones {
-        exhaustive::all(&mut sink);
-        eprintln!("{name}: {} records of small cases{}", sink.written, if sink.full() { ", not all of them" } else { "" });
+        exhaustive::all(&mut sink, &wanted.parts);
+        eprintln!(
+            "{name}: {} records of small cases{}",
+            sink.written,
+            if sink.full() { ", not all of them" } else { "" }
+        );
     }
     while !sink.full() {
         let part = part(&mut chance);

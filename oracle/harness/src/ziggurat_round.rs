@@ -16,6 +16,12 @@ impl Table {
     fn new(floats: ZigTable) -> Table {
         Table { floats, bits: Box::leak(Box::new(floats.map(f64::to_bits))) }
     }
+
+    /// The table of these bits, of which there are 257.
+    pub fn of(bits: &[u64]) -> Table {
+        let floats: Vec<f64> = bits.iter().map(|&bits| f64::from_bits(bits)).collect();
+        Table::new(Box::leak(Box::new(floats.try_into().expect("257 floats"))))
+    }
 }
 
 /// The tables of a run. The Rust wants them for the whole life of the program, so they are made once.
