@@ -1,11 +1,12 @@
-//! Holds a list of records against the Rust: each call is asked again, and the record must come out the same. So the
-//! answers that were worked out by hand are the Rust's too, wherever it can be asked.
+//! Reads records. Holds a list against the Rust: each call is asked again, and the record must come out the same. So
+//! the answers that were worked out by hand are the Rust's too, wherever it can be asked.
 use crate::alias::{self, Table};
 use crate::binomial::{self, Setup};
 use crate::records::{self, Origin, Sink};
 use crate::rules;
 use crate::tree::{self, Lent};
 use crate::ziggurat_round;
+use std::io::Read;
 
 /// A record's call and what is lent and handed in.
 struct Asked {
@@ -14,21 +15,29 @@ struct Asked {
     lent: Vec<Vec<u64>>,
 }
 
-/// The next number of a record.
-fn next(words: &mut impl Iterator<Item = u64>) -> Result<u64, String> {
-    words.next().ok_or_else(|| "is cut off".into())
+/// The call of a record and its eight lists.
+fn decoded(bytes: &[u8]) -> Result<(u64, Vec<Vec<u64>>), String> {
+    let mut words = bytes.chunks_exact(8).map(|word| u64::from_be_bytes(word.try_into().expect("eight bytes")));
+    let mut next = || words.next().ok_or_else(|| "is malformed".to_string());
+    let (code, _origin) = (next()?, next()?);
+    let mut lists = Vec::new();
+    for _ in 0..8 {
+        let length = next()?;
+        lists.push((0..length).map(|_| next()).collect::<Result<Vec<u64>, String>>()?);
+    }
+    Ok((code, lists))
 }
 
 fn asked(bytes: &[u8]) -> Result<Asked, String> {
-    let mut words = bytes.chunks_exact(8).map(|word| u64::from_be_bytes(word.try_into().expect("eight bytes")));
-    let code = next(&mut words)?;
-    next(&mut words)?;
-    let mut lists = Vec::new();
-    for _ in 0..5 {
-        let length = next(&mut words)?;
-        lists.push((0..length).map(|_| next(&mut words)).collect::<Result<Vec<u64>, String>>()?);
-    }
+    let (code, mut lists) = decoded(bytes)?;
     Ok(Asked { code, numbers: lists.remove(0), lent: lists })
+}
+
+/// The first record of a list, without its length, and what follows it.
+fn first(bytes: &[u8]) -> Option<(&[u8], &[u8])> {
+    let (head, behind) = bytes.split_first_chunk::<8>()?;
+    let size = usize::try_from(u64::from_be_bytes(*head)).ok()?.checked_mul(8)?;
+    behind.split_at_checked(size)
 }
 
 impl Asked {
@@ -107,10 +116,9 @@ pub fn judge(bytes: &[u8]) -> Result<[u64; 2], String> {
     let mut sink = Sink::new(std::io::sink(), u64::MAX, None);
     let mut rest = bytes;
     let mut rust = 0;
-    while let Some((head, behind)) = rest.split_first_chunk::<8>() {
+    while !rest.is_empty() {
         let place = sink.written + 1;
-        let size = usize::try_from(u64::from_be_bytes(*head)).ok().and_then(|words| words.checked_mul(8));
-        let record = size.and_then(|size| behind.get(..size)).ok_or(format!("record {place} is cut off\n"))?;
+        let (record, behind) = first(rest).ok_or(format!("record {place} is cut off\n"))?;
         let asked = asked(record).map_err(|why| format!("record {place} {why}\n"))?;
         asked.ask(&mut sink).map_err(|why| format!("record {place} {why}\n"))?;
         // the origin, which is the second number, may be another
@@ -118,7 +126,23 @@ pub fn judge(bytes: &[u8]) -> Result<[u64; 2], String> {
             return Err(format!("record {place} ({}) differs: {:?}\n", records::NAMES[asked.code as usize], sink.last));
         }
         rust += u64::from(sink.last.origin == Origin::Rust);
-        rest = &behind[record.len()..];
+        rest = behind;
     }
     Ok([sink.written, rust])
+}
+
+/// The record at a place of a stream, counted from one, to be read.
+pub fn show(mut from: impl Read, place: u64) -> Result<String, String> {
+    let mut record = Vec::new();
+    for _ in 0..place {
+        let mut head = [0; 8];
+        from.read_exact(&mut head).map_err(|why| format!("the stream has fewer records: {why}\n"))?;
+        record.clear();
+        let size = u64::from_be_bytes(head).saturating_mul(8);
+        from.by_ref().take(size).read_to_end(&mut record).map_err(|why| format!("{why}\n"))?;
+    }
+    let (code, lists) = decoded(&record).map_err(|why| format!("record {place} {why}\n"))?;
+    let named = ["numbers", "lent 1", "lent 2", "lent 3", "lent 4", "answer", "left 1", "left 2"].iter().zip(lists);
+    let lines = named.filter(|(_, list)| !list.is_empty()).map(|(name, list)| format!("\n{name}: {list:?}"));
+    Ok(format!("{}{}", records::NAMES.get(code as usize).unwrap_or(&"?"), lines.collect::<String>()))
 }

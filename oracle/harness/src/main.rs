@@ -35,6 +35,8 @@ const USAGE: &str = "usage: harness COMMAND
           writes the fixed list that the gate replays
   judge FILE
           asks the Rust again for every record of a list, and says whether it comes out the same
+  show PLACE
+          prints the record at a place of the stream on standard input, counted from one
   differences
           runs the inputs at which the port is to differ, and prints what the Rust does there
 ";
@@ -64,6 +66,12 @@ fn judge(file: &str) -> Result<(), String> {
     Ok(())
 }
 
+fn show(place: &str) -> Result<(), String> {
+    let place = place.parse().map_err(|_| format!("{place} is no number\n"))?;
+    println!("{}", judge::show(std::io::stdin().lock(), place)?);
+    Ok(())
+}
+
 fn differences() -> Result<(), String> {
     let (number, wrong) = differences::all(&mut Sink::new(std::io::sink(), u64::MAX, None), true);
     println!("{number} inputs, {wrong} not as listed");
@@ -76,6 +84,7 @@ fn run(mut arguments: impl Iterator<Item = String>) -> Result<(), String> {
         "stream" => stream::stream(&wanted(arguments)?),
         "list" => list::list(&arguments.next().ok_or(USAGE)?)?,
         "judge" => judge(&arguments.next().ok_or(USAGE)?)?,
+        "show" => show(&arguments.next().ok_or(USAGE)?)?,
         "differences" => differences()?,
         _ => return Err(USAGE.into()),
     }

@@ -36,7 +36,8 @@ pub fn parts(list: &str) -> Result<Vec<Part>, String> {
 }
 
 /// Which part a session is of, in a hundred. A session of a tree has some 25 records, of a table 15, of a setup 4 and
-/// of the ziggurat 2 large ones: about 4 records in 10 are the tree's, 3 the tables', 2 the setups' and 1 in 20 a round.
+/// of the ziggurat 2 large ones: so about 4 records in 10 are the tree's, 3 the tables', 2 the setups', and 1 in 20 is
+/// a round.
 fn part(chance: &mut Chance) -> Part {
     match chance.below(100) {
         0..=14 => Part::Tree,
