@@ -34,18 +34,33 @@ fn probability(chance: &mut Chance, n: u64) -> f64 {
     }
 }
 
-/// A unit's word: any, or at an edge.
-fn word(chance: &mut Chance) -> u64 {
+/// A unit's word: any, at an end, or where the count of this setup rises.
+fn word(chance: &mut Chance, setup: &Setup) -> u64 {
     match chance.below(8) {
         0 => chance.of(&[0, u64::MAX, 1 << 63, (1 << 63) - 1, 4096, 4095]),
         1 => u64::MAX - (chance.any_size() >> 4),
+        2..=3 => rise(chance, setup),
         _ => chance.word(),
     }
 }
 
-fn pool(chance: &mut Chance) -> Vec<u64> {
+/// A word whose unit is close to the sum of the first few chances of a setup.
+fn rise(chance: &mut Chance, setup: &Setup) -> u64 {
+    let &Setup::Binv { mut r, s, a, .. } = setup else {
+        return chance.word();
+    };
+    let mut sum = r;
+    for count in 1..=chance.below(6) {
+        r *= a / count as f64 - s;
+        sum += r;
+    }
+    chance.near((sum * 4_503_599_627_370_496.0) as u64) << 12
+}
+
+fn draw(sink: &mut Sink, chance: &mut Chance, setup: &Setup) {
     let words = if chance.one_in(24) { 0 } else { 1 + chance.below(3) };
-    (0..words).map(|_| word(chance)).collect()
+    let pool: Vec<u64> = (0..words).map(|_| word(chance, setup)).collect();
+    setup.draw(sink, &pool);
 }
 
 /// A setup that was made, with something in it changed.
@@ -79,10 +94,12 @@ pub fn session(sink: &mut Sink, chance: &mut Chance) {
     let n = trials(chance);
     let p = probability(chance, n);
     if let Some(setup) = binomial::make(sink, n, p) {
-        (0..3).for_each(|_| setup.draw(sink, &pool(chance)));
-        changed(chance, setup).draw(sink, &pool(chance));
+        (0..3).for_each(|_| draw(sink, chance, &setup));
+        let setup = changed(chance, setup);
+        draw(sink, chance, &setup);
     }
     if chance.one_in(2) {
-        lent(chance).draw(sink, &pool(chance));
+        let setup = lent(chance);
+        draw(sink, chance, &setup);
     }
 }

@@ -36,13 +36,12 @@ pub fn parts(list: &str) -> Result<Vec<Part>, String> {
 }
 
 /// Which part a session is of, in a hundred. A session of a tree has some 25 records, of a table 15, of a setup 4 and
-/// of the ziggurat 2 large ones: so about 4 records in 10 are the tree's, 3 the tables', 2 the setups', and 1 in 20 is
-/// a round.
+/// of the ziggurat 2 large ones: so about 4 records in 10 are the tree's, 3 the tables', 2 the setups' and 1 is a round.
 fn part(chance: &mut Chance) -> Part {
     match chance.below(100) {
-        0..=14 => Part::Tree,
-        15..=33 => Part::Alias,
-        34..=77 => Part::Binomial,
+        0..=11 => Part::Tree,
+        12..=27 => Part::Alias,
+        28..=65 => Part::Binomial,
         _ => Part::Ziggurat,
     }
 }

@@ -7,10 +7,10 @@ use crate::tree::{self, Lent};
 /// How many slots: mostly a few, at times many.
 pub fn size(chance: &mut Chance) -> usize {
     match chance.below(2048) {
-        0..=1 => chance.near(rules::MOST_SLOTS) as usize,
-        2..=7 => chance.index(4097),
-        8..=150 => chance.index(65),
-        151..=600 => chance.index(17),
+        0..=2 => chance.near(rules::MOST_SLOTS) as usize,
+        3..=12 => chance.index(4097),
+        13..=200 => chance.index(65),
+        201..=700 => chance.index(17),
         _ => chance.index(9),
     }
 }

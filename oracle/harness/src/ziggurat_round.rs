@@ -17,6 +17,10 @@ impl Table {
         Table { floats, bits: Box::leak(Box::new(floats.map(f64::to_bits))) }
     }
 
+    pub fn at(&self, place: u64) -> f64 {
+        self.floats[place as usize]
+    }
+
     /// The table of these bits, of which there are 257.
     pub fn of(bits: &[u64]) -> Table {
         let floats: Vec<f64> = bits.iter().map(|&bits| f64::from_bits(bits)).collect();
