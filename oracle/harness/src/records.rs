@@ -134,7 +134,7 @@ impl Progress {
 
     /// A line every five seconds; the clock is looked at once in so many records.
     fn show(&mut self, written: u64, limit: u64) {
-        if written.is_multiple_of(1 << 14) && self.shown.elapsed().as_secs() >= 5 {
+        if written & 0x3fff == 0 && self.shown.elapsed().as_secs() >= 5 {
             self.shown = Instant::now();
             let seconds = self.begun.elapsed().as_secs_f64();
             let rate = written as f64 / seconds;
