@@ -221,11 +221,11 @@ fn power(shown: &mut Shown) {
 
 /// A lent setup of no trials whose attempt with the unit 0.5 counts 1.
 fn counts_past_n(shown: &mut Shown) {
-    let (r, s, a) = (0.25, 0.0, 4.0);
+    let (r, s, a) = (0.25, -1.0, 0.0);
     let setup = |flip| Setup::Binv { n: 0, r, s, a, flip };
     let draw = |flip| binomial_of(0, r, s, a, flip).sample(&mut Script::attempt(0.5));
     let half = 1 << 63;
-    let input = "BINV of n = 0, r = 0.25, s = 0, a = 4 with the unit 0.5";
+    let input = "BINV of n = 0, r = 0.25, s = -1, a = 0 with the unit 0.5";
     shown.one(input, || draw(false), "1", "refusal 12", |sink| setup(false).draw(sink, &[half]));
     let input = "the same, and the unit 0 behind it";
     shown.one(input, || draw(false), "1", "answers 0, 2", |sink| setup(false).draw(sink, &[half, 0]));
