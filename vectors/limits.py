@@ -1,7 +1,7 @@
 #!/usr/bin/env python3
-"""Writes the records of the calls at their limits: crates/compare/stdin.
+"""Writes the records of the calls at their limits to a file: the first part of crates/compare/stdin (tools/records).
 
-usage: limits.py [--list] [FILE]
+usage: limits.py [--list] FILE
 
 Each case below is a call, what is lent and handed in, and what docs/RULES.md says of the answer and of every lent
 cell; all of it was worked out from the rules by hand, and none of it by running the port. The floats are Python's
@@ -585,6 +585,8 @@ if __name__ == '__main__':
             print(place, call, '-', name)
         sys.exit()
     files = [a for a in sys.argv[1:] if not a.startswith('-')]
-    out = pathlib.Path(files[0]) if files else pathlib.Path(__file__).resolve().parent.parent / 'crates/compare/stdin'
+    if len(files) != 1:
+        sys.exit(__doc__)
+    out = pathlib.Path(files[0])
     out.write_bytes(b''.join(encoded(*c) for c in cases))
     print(len(cases), 'records,', out.stat().st_size, 'bytes')
