@@ -1,12 +1,14 @@
 -- The table of refusals, line by line, for the calls on a tree and for a number from words: each number is given exactly when its row is the first
 -- whose case holds, no other is ever given, and a refused call leaves what it found and consumes no words. Assumes nothing.
-use Prim.Native.Nat.{ℕ, _+_, _-_, _*_, _%_, _^_, _<_}
+use Prim.Native.Nat.{ℕ, zero, suc, _+_, _-_, _*_, _/_, _%_, _^_, _<_}
 use native.Mathlib.Omega.{arith}
+use native.Mathlib.Nat.{mul-comm, pow-suc, div-div-eq-div-mul, div-eq-of-lt}
 use mathlib.Core.Bool.{Bool, true, false, cond, not, _&&_}
-use mathlib.Core.Path.{_≡_, refl}
+use mathlib.Core.Path.{_≡_, refl, sym, _∙_}
 use mathlib.Core.Logic.{_⊎_, inl, inr, ⊎-elim}
 use mathlib.Core.List.{List, [], _∷_}
 use borrow.Author.Tests.{ltb-true, ltb-false}
+use lib.Pow.{pow-pos}
 use lib.Dec.{ltb, leb, eqb}
 use lib.ListN.{length, getD}
 use Rattle.counting.specs.Sum.{exceedsU64}
@@ -23,6 +25,7 @@ use Rattle.words.specs.declared.Taken.{Taken}
 use Rattle.words.proofs.First.{no-first}
 use Rattle.weighted_tree.specs.Store.{Store, total, cellAt, childrenAt, soundAt}
 use Rattle.weighted_tree.specs.Path.{parents, pathOf, soundAll}
+use Rattle.weighted_tree.proofs.Climb.{Climb, top, up, climb, parents-suc, parents-unbounded}
 use Rattle.weighted_tree.specs.Tests.{badCount, full, damaged}
 use Rattle.weighted_tree.specs.New as new
 use Rattle.weighted_tree.specs.IsValid as isValid
@@ -33,7 +36,7 @@ use Rattle.weighted_tree.specs.Update as update
 use Rattle.weighted_tree.specs.Walk as walk
 use Rattle.weighted_tree.specs.Draw as draw
 use Rattle.weighted_tree.specs.IsSound as isSound
-use Rattle.promises.specs.Rows.{Accepted, NoWord, SomeUnsound, BadCount, Full, NoTotal, Exceeds, GivenBy, RefusedBy, WordRows, NewRows, CountRows, GetRows, PopRows, PushRows, UpdateRows, WalkRows, DrawRows}
+use Rattle.promises.specs.Rows.{Accepted, NoWord, Unsound, SomeUnsound, ParentUnsound, PathUnsound, BadCount, Full, NoTotal, Exceeds, GivenBy, RefusedBy, WordRows, NewRows, CountRows, GetRows, PopRows, PushRows, UpdateRows, WalkRows, DrawRows}
 use Rattle.promises.proofs.Rows.{Says, clash, says-less, says-most, says-is, says-not, says-or, says-and, says-as, rows-given, rows-kept}
 
 -- ---- what each test says
@@ -72,6 +75,55 @@ says-damaged s n (i ∷ path) = go (soundAt s n i) refl (says-damaged s n path) 
     go : (b : Bool) → soundAt s n i ≡ b → Says (not (soundAll s n path)) (SomeUnsound s n path) → Says (not (soundAt s n i)) (cellAt s n i < cellAt s n (2 * i + 1) + cellAt s n (2 * i + 2)) → Says (not (b && soundAll s n path)) ((cellAt s n i < cellAt s n (2 * i + 1) + cellAt s n (2 * i + 2)) ⊎ SomeUnsound s n path)
     go true q later own = (λ e. inr (later .0 e), λ h. ⊎-elim (λ (x : cellAt s n i < cellAt s n (2 * i + 1) + cellAt s n (2 * i + 2)). absurd (clash (not (soundAt s n i)) (own .1 x) (rw q))) (λ (y : SomeUnsound s n path). later .1 y) h)
     go false q later own = (λ e. inl (own .0 (rw q)), λ h. refl)
+
+-- the parents of a cell are its halves, counted from one
+half : (m t : ℕ) → (suc m + 1) / 2 ^ suc t ≡ (m / 2 + 1) / 2 ^ t
+half m t =
+    let two : (suc m + 1) / 2 ≡ m / 2 + 1 = omega arith in
+    let power : 2 ^ suc t ≡ 2 * 2 ^ t = pow-suc 2 t ∙ mul-comm (2 ^ t) 2 in
+    rw power (sym (div-div-eq-div-mul (suc m + 1) 2 (2 ^ t)) ∙ (rw two))
+
+small : (t : ℕ) → 1 / 2 ^ suc t ≡ 0
+small t = div-eq-of-lt (let power : 2 ^ suc t ≡ 2 ^ t * 2 = pow-suc 2 t in omega (arith, pow-pos t))
+
+module _ (s : Store) (n : ℕ) where
+  -- what stands on the way up from the parent of a cell stands on the way up from the cell
+  parents-up : (m : ℕ) → ParentUnsound s n (m / 2) → ParentUnsound s n (suc m)
+  parents-up m (i, (t, e), u) = (i, (suc t, e ∙ sym (half m (suc t))), u)
+
+  to-parents : {j : ℕ} → Climb j → SomeUnsound s n (parents j) → ParentUnsound s n j
+  unfolding SomeUnsound
+  to-parents top h = absurd (rw (parents-unbounded top) at h)
+  to-parents (up m way) h =
+      let here : m / 2 + 1 ≡ (suc m + 1) / 2 ^ 1 = omega arith in
+      ⊎-elim (λ (u : Unsound s n (m / 2)). (m / 2, (0, here), u)) (λ (later : SomeUnsound s n (parents (m / 2))). parents-up m (to-parents way later)) (rw (parents-suc m) at h)
+
+  from-parents : {j : ℕ} → Climb j → ParentUnsound s n j → SomeUnsound s n (parents j)
+  unfolding SomeUnsound
+  from-parents top (i, (t, e), u) = absurd (omega (arith, e ∙ small t))
+  from-parents (up m way) (i, (zero, e), u) =
+      let same : i ≡ m / 2 = omega arith in
+      rw (parents-suc m) (inl (rw same at u))
+  from-parents (up m way) (i, (suc t, e), u) = rw (parents-suc m) (inr (from-parents way (i, (t, e ∙ half m (suc t)), u)))
+
+  says-parents : (j : ℕ) → Says (damaged s n (parents j)) (ParentUnsound s n j)
+  says-parents j = says-as (says-damaged s n (parents j)) (to-parents (climb j)) (from-parents (climb j))
+
+  says-path : (j : ℕ) → Says (damaged s n (pathOf j)) (PathUnsound s n j)
+  unfolding SomeUnsound
+  says-path j = says-as (says-damaged s n (pathOf j)) to from
+    where
+      whole : (j + 1) / 2 ^ 0 ≡ j + 1
+      whole = omega arith
+
+      to : SomeUnsound s n (pathOf j) → PathUnsound s n j
+      to h =
+          ⊎-elim (λ (u : Unsound s n j). (j, (0, sym whole), u))
+          (λ (later : SomeUnsound s n (parents j)). let found = to-parents (climb j) later in (found .0, (suc (found .1 .0), found .1 .1), found .2)) h
+
+      from : PathUnsound s n j → SomeUnsound s n (pathOf j)
+      from (i, (zero, e), u) = let same : i ≡ j = omega (arith, e ∙ whole) in inl (rw same at u)
+      from (i, (suc t, e), u) = inr (from-parents (climb j) (i, (t, e), u))
 
 says-accepted : (T w : ℕ) → Says (accepts T w) (Accepted T w)
 unfolding accepts
@@ -112,19 +164,19 @@ pub pop-table : {s after : Store} {n : ℕ} {r : Popped} → pop.Promise s n r a
 unfolding pop.rule
 pop-table {s} {after} {n} {r} p =
     rows-kept _ _ (pop.refusals s n) (PopRows s n) (pop.changed s n) s after (p .answer) (p .store)
-    (refl, says-bad-count s n, (refl, says-is n 0, (refl, says-damaged s n (pathOf (n - 1)), tt)))
+    (refl, says-bad-count s n, (refl, says-is n 0, (refl, says-path s n (n - 1), tt)))
 
 pub push-table : {s after : Store} {n w : ℕ} {r : Counted} → push.Promise s n w r after → RefusedBy (PushRows s n w) (countedTells r) s after
 unfolding push.rule
 push-table {s} {after} {n} {w} {r} p =
     rows-kept _ _ (push.refusals s n w) (PushRows s n w) (push.changed s n w) s after (p .answer) (p .store)
-    (refl, says-bad-count s n, (refl, says-full s n, (refl, says-damaged s n (parents n), (refl, says-exceeds _, tt))))
+    (refl, says-bad-count s n, (refl, says-full s n, (refl, says-parents s n n, (refl, says-exceeds _, tt))))
 
 pub update-table : {s after : Store} {n i w : ℕ} {r : Counted} → update.Promise s n i w r after → RefusedBy (UpdateRows s n i w) (countedTells r) s after
 unfolding update.rule
 update-table {s} {after} {n} {i} {w} {r} p =
     rows-kept _ _ (update.refusals s n i w) (UpdateRows s n i w) (update.changed s n i w) s after (p .answer) (p .store)
-    (refl, says-bad-count s n, (refl, says-most n i, (refl, says-damaged s n (pathOf i), (refl, says-exceeds _, tt))))
+    (refl, says-bad-count s n, (refl, says-most n i, (refl, says-path s n i, (refl, says-exceeds _, tt))))
 
 pub walk-table : {s : Store} {n t : ℕ} {r : Drawn} → walk.Promise s n t r → GivenBy (WalkRows s n t) (drawnTells r)
 unfolding walk.rule

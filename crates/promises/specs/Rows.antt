@@ -1,6 +1,6 @@
 -- The rows of the table of refusals, in arithmetic and quantifiers and apart from the tests that the calls' definitions use; and for each call
 -- its rows in their order.
-use Prim.Native.Nat.{ℕ, _+_, _-_, _*_, _/_, _%_, _^_, _<_, _≤_}
+use Prim.Native.Nat.{ℕ, suc, _+_, _-_, _*_, _/_, _%_, _^_, _<_, _≤_}
 use mathlib.Core.Bool.{Bool, true, false, cond}
 use mathlib.Core.Path.{_≡_}
 use mathlib.Core.Logic.{_⊎_, _↔_}
@@ -11,7 +11,6 @@ use Rattle.counting.specs.Sum.{sumOf}
 use Rattle.refusal.specs.Outcome.{Outcome, refused}
 use Rattle.words.specs.Below.{place, target}
 use Rattle.weighted_tree.specs.Store.{Store, cellAt, weightAt}
-use Rattle.weighted_tree.specs.Path.{parents, pathOf}
 use Rattle.weighted_tree.specs.Walk.{walkPath}
 use Rattle.alias_checker.specs.Shares.{lent}
 use Rattle.binomial.specs.declared.Method.{Method}
@@ -51,10 +50,25 @@ abbrev pub WordRows : ℕ → List ℕ → Table
 WordRows T pool = (12, NoWord T pool) ∷ []
 
 -- ---- the tree
--- some cell of a path is below its children's sum
+-- a cell is below its children's sum
+abbrev pub Unsound : Store → ℕ → ℕ → Type 0
+Unsound s n i = cellAt s n i < cellAt s n (2 * i + 1) + cellAt s n (2 * i + 2)
+
+-- some cell of a list is
 unfoldable pub SomeUnsound : Store → ℕ → List ℕ → Type 0
 SomeUnsound s n [] = ⊥
-SomeUnsound s n (i ∷ path) = (cellAt s n i < cellAt s n (2 * i + 1) + cellAt s n (2 * i + 2)) ⊎ SomeUnsound s n path
+SomeUnsound s n (i ∷ path) = Unsound s n i ⊎ SomeUnsound s n path
+
+-- cell i is reached from cell j by going up so many times: counted from one, a cell's parent is its half
+abbrev pub Above : ℕ → ℕ → ℕ → Type 0
+Above i j times = i + 1 ≡ (j + 1) / 2 ^ times
+
+-- some parent of cell j is unsound, and some cell of its path, which is the cell and its parents
+abbrev pub ParentUnsound : Store → ℕ → ℕ → Type 0
+ParentUnsound s n j = (i : ℕ) × ((times : ℕ) × Above i j (suc times)) × Unsound s n i
+
+abbrev pub PathUnsound : Store → ℕ → ℕ → Type 0
+PathUnsound s n j = (i : ℕ) × ((times : ℕ) × Above i j times) × Unsound s n i
 
 abbrev pub BadCount : Store → ℕ → Type 0
 BadCount s n = (4096 < n) ⊎ (length s < n)
@@ -83,21 +97,21 @@ abbrev pub GetRows : Store → ℕ → ℕ → Table
 GetRows s n i =
     (7, BadCount s n)
     ∷ (8, n ≤ i)
-    ∷ (13, cellAt s n i < cellAt s n (2 * i + 1) + cellAt s n (2 * i + 2))
+    ∷ (13, Unsound s n i)
     ∷ []
 
 abbrev pub PopRows : Store → ℕ → Table
 PopRows s n =
     (7, BadCount s n)
     ∷ (11, n ≡ 0)
-    ∷ (13, SomeUnsound s n (pathOf (n - 1)))
+    ∷ (13, PathUnsound s n (n - 1))
     ∷ []
 
 abbrev pub PushRows : Store → ℕ → ℕ → Table
 PushRows s n w =
     (7, BadCount s n)
     ∷ (10, Full s n)
-    ∷ (13, SomeUnsound s n (parents n))
+    ∷ (13, ParentUnsound s n n)
     ∷ (4, Exceeds (cellAt s n 0 + w))
     ∷ []
 
@@ -105,7 +119,7 @@ abbrev pub UpdateRows : Store → ℕ → ℕ → ℕ → Table
 UpdateRows s n i w =
     (7, BadCount s n)
     ∷ (8, n ≤ i)
-    ∷ (13, SomeUnsound s n (pathOf i))
+    ∷ (13, PathUnsound s n i)
     ∷ (4, Exceeds (cellAt s n 0 + (w - weightAt s n i)))
     ∷ []
 
