@@ -11,6 +11,7 @@ pub mod TreeTable
 pub mod AliasTable
 pub mod FloatTable
 pub mod Determined
+pub mod Exports
 pub mod Stars
 pub mod Balance
 pub mod Alias

@@ -4,3 +4,4 @@ pub mod Alias
 pub mod History
 pub mod Rows
 pub mod Stars
+pub mod Exports
