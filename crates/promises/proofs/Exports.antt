@@ -1,24 +1,32 @@
 -- The exports write what their calls answer into cells. So any two answers that an export may write for the same input agree, and so does the lent
 -- memory; and the number that it tells is that of a refusal exactly when the rows of its call say so. Two laws carry over what is proved of the
 -- calls; the rest is a line for each export. Assumes nothing.
-use Prim.Native.Nat.{ℕ, zero, suc, _<_}
+use Prim.Native.Nat.{ℕ, zero, suc, _/_, _%_, _<_}
 use native.Mathlib.Omega.{arith}
-use mathlib.Core.Bool.{Bool, cond}
+use mathlib.Core.Bool.{Bool, true, false, not, cond}
 use mathlib.Core.Path.{_≡_, refl, sym, ap, _∙_}
 use mathlib.Core.Logic.{_↔_}
 use mathlib.Core.List.{List, []}
-use lib.Dec.{eqb}
+use lib.Dec.{T, eqb}
 use lib.ListN.{length, getD, replicate}
-use lib.Ieee.{Float}
+use lib.Ieee.{Float, binary64, fits, mul, eq}
+use lib.Ieee.Bits.{ofBits-toBits}
+use lib.Ieee.Fits.{mul-fits, div-fits}
+use Rattle.refusal.specs.Number.{number}
 use Rattle.refusal.specs.Outcome.{Outcome, gave, refused}
 use Rattle.refusal.specs.Answers.{saidTells, countedTells, weighedTells, poppedTells, drawnTells, inNumbers, alone, yesNo}
+use Rattle.refusal.specs.declared.Refusal.{Refusal}
 use Rattle.refusal.specs.declared.Drawing.{Drawing}
-use Rattle.refusal.proofs.Order.{given-not-refused}
+use Rattle.refusal.proofs.Named.{named, named-number}
+use Rattle.refusal.proofs.Order.{given-not-refused, given-means}
 use Rattle.words.specs.Below as below
 use Rattle.weighted_tree.specs.Store.{Store}
 use Rattle.binomial.specs.declared.Made.{Made}
 use Rattle.binomial.specs.declared.Made.the-variants as made
+use Rattle.binomial.specs.declared.Binv.{Binv}
+use Rattle.binomial.specs.declared.Method.{Method}
 use Rattle.binomial.specs.declared.Method.the-variants as method
+use Rattle.binomial.specs.Setup.{nought, one, powerFrom, binvOf}
 use Rattle.binomial.specs.New as setup
 use Rattle.ziggurat.specs.declared.Rounded.{Rounded}
 use Rattle.ziggurat.specs.declared.Rounded.the-variants as rounded
@@ -35,6 +43,7 @@ use Rattle.promises.specs.Rows.{Table, FirstIs, GivenBy, RefusedBy, Word
 use Rattle.promises.specs.Exports.{numberIn, NumberBy, Refuses}
 use Rattle.promises.proofs.TreeTable as treeTable
 use Rattle.promises.proofs.AliasTable as aliasTable
+use Rattle.promises.proofs.FloatTable.{setupTests, setupValue, setup-order}
 use Rattle.promises.proofs.FloatTable as floatTable
 use Rattle.promises.proofs.Determined as call
 
@@ -224,3 +233,45 @@ ziggurat-round-table {symmetric} {X} {F} {pool} {cells} p =
     let a = p .answer in
     let cell = number-of-round (a .outcome) (a .words) in
     rw (p .cells-are, cell .1) (refuses-by _ _ (tells (a .outcome)) (cell .0) (floatTable.round-table (p .promise)))
+
+-- ---- a setup in cells is the setup that was made
+flip-back : (b : Bool) → not (eqb (cond b 1 0) 0) ≡ b
+flip-back true = refl
+flip-back false = refl
+
+binv-back : (b : Binv) → T (fits binary64 (b .r)) → T (fits binary64 (b .s)) → T (fits binary64 (b .a)) → binomial.methodOf (binomial.madeCells (made.Setup (method.Binv b))) ≡ method.Binv b
+binv-back b r s a = rw (ofBits-toBits binary64 (b .r) r, ofBits-toBits binary64 (b .s) s, ofBits-toBits binary64 (b .a) a, flip-back (b .flip))
+
+power-fits : (bits n : ℕ) (power made : Float) → T (fits binary64 made) → T (fits binary64 (powerFrom bits n power made))
+unfolding powerFrom
+power-fits zero n power made h = h
+power-fits (suc bits) n power made h = power-fits bits (n / 2) (mul binary64 power power) _ (go (eqb (n % 2) 1))
+  where
+    go : (b : Bool) → T (fits binary64 (cond b (mul binary64 made power) made))
+    go true = mul-fits binary64 made power
+    go false = h
+
+setup-back : (n : ℕ) (x : Float) → binomial.methodOf (binomial.madeCells (made.Setup (setupValue n x))) ≡ setupValue n x
+unfolding binvOf fits
+setup-back n x = go (eq x nought) (eq x one)
+  where
+    go : (z t : Bool) → binomial.methodOf (binomial.madeCells (made.Setup (cond z (method.Constant 0) (cond t (method.Constant n) (method.Binv (binvOf n x)))))) ≡ cond z (method.Constant 0) (cond t (method.Constant n) (method.Binv (binvOf n x)))
+    go true t = refl
+    go false true = refl
+    go false false = binv-back (binvOf n x) (power-fits 64 n _ one tt) (div-fits binary64 _ _) (mul-fits binary64 _ _)
+
+setup-same : {n : ℕ} {x : Float} {m : Method} → setup.Promise n x (made.Setup m) → binomial.methodOf (binomial.madeCells (made.Setup m)) ≡ m
+setup-same {n} {x} {m} p =
+    let e = given-means (setupTests n x) (setupValue n x) m (sym (p .answer ∙ setup-order n x)) .1 in
+    ap (λ (k : Method). binomial.methodOf (binomial.madeCells (made.Setup k))) (sym e) ∙ setup-back n x ∙ e
+
+no-number-0 : (r : Refusal) → number r ≡ 0 → ⊥
+no-number-0 r e = let first : number r ≡ 1 = ap number (sym (named-number r) ∙ ap named e) in omega arith
+
+-- where a setup is not refused, the draw reads from its cells the very setup that the rule gives
+pub setup-handed-on : {n : ℕ} {x : Float} {cells : List ℕ} → binomial.New n x cells → numberIn cells ≡ 0 → setup.rule n x ≡ gave (binomial.methodOf cells)
+setup-handed-on {n} {x} {cells} p z = go (p .answer) (p .promise) (p .cells-are)
+  where
+    go : (a : Made) → setup.Promise n x a → cells ≡ binomial.madeCells a → setup.rule n x ≡ gave (binomial.methodOf cells)
+    go (made.Setup m) q e = sym (q .answer) ∙ ap gave (sym (ap binomial.methodOf e ∙ setup-same q))
+    go (made.Refused r) q e = absurd (no-number-0 r (sym (ap numberIn e) ∙ z))

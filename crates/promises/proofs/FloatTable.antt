@@ -45,7 +45,7 @@ says-between p = says-and _ _ (says-false (eq p nought)) (says-false (eq p one))
     says-false true = (λ e. absurd (clash false e refl), λ e. absurd (clash true refl e))
     says-false false = (λ e. refl, λ e. refl)
 
-abbrev setupTests : ℕ → Float → List (ℕ × Bool)
+abbrev pub setupTests : ℕ → Float → List (ℕ × Bool)
 setupTests n p =
     (5, new.tooSmall p)
     ∷ (6, new.tooLarge p)
@@ -54,10 +54,10 @@ setupTests n p =
     ∷ (17, (not (eq p nought) && not (eq p one)) && new.needsPoisson p)
     ∷ []
 
-abbrev setupValue : ℕ → Float → Method
+abbrev pub setupValue : ℕ → Float → Method
 setupValue n p = cond (eq p nought) (method.Constant 0) (cond (eq p one) (method.Constant n) (method.Binv (binvOf n p)))
 
-setup-order : (n : ℕ) (p : Float) → new.rule n p ≡ inOrder (setupTests n p) (gave (setupValue n p))
+pub setup-order : (n : ℕ) (p : Float) → new.rule n p ≡ inOrder (setupTests n p) (gave (setupValue n p))
 unfolding new.rule new.laterRule
 setup-order n p = go (eq p nought) (eq p one)
   where

@@ -4,6 +4,12 @@
 
 unsigned run_checks(void);
 void failed(void);
+void rust_eh_personality(void);
+
+/* Rust's core names this where it unwinds; the checks abort instead. */
+void rust_eh_personality(void)
+{
+}
 
 void failed(void)
 {
