@@ -6,8 +6,9 @@
  * what each answers and leaves; the two lines above each function are its rule in short.
  *
  * What the caller owes, and nothing else is asked:
- *  - a pointer is not null, is aligned for its type and points to as many initialised elements as the length behind it
- *    says, or the array's size; also where that length is 0, in which case nothing is read or written there;
+ *  - a pointer is not null, also where its length is 0, is aligned for its type, and points to as many elements as the
+ *    length behind it or the array's size says; all have been given a value before, but for an answer, which is only
+ *    written;
  *  - what a call may write (a pointer with no const) overlaps nothing else that the same call is lent, and nothing else
  *    writes what is lent while the call runs;
  *  - floats are those of C's default environment: rounding to nearest, and subnormal numbers are not flushed to zero.
