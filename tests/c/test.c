@@ -363,7 +363,7 @@ static void floats_by_name(void)
 }
 
 /* ---- floats of every kind of NaN: each sign with each single bit of the payload, the highest of which makes it quiet,
- * each of these with the quiet bit, and all bits */
+ * each of these with the quiet bit, all bits, and a thousand patterns of many bits */
 static void check_nan(uint64_t nan)
 {
     static double edges[SLOT_DRAW_TABLE_LENGTH], densities[SLOT_DRAW_TABLE_LENGTH];
@@ -404,6 +404,11 @@ static void nans(void)
         }
         check_nan(top | (quiet - 1));
         check_nan(top | quiet | (quiet - 1));
+    }
+    uint64_t bits = 1;
+    for (int i = 0; i < 1000; i++) {
+        bits = bits * UINT64_C(6364136223846793005) + UINT64_C(1442695040888963407);
+        check_nan(bits | infinity | 1);
     }
 }
 
