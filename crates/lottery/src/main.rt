@@ -1,99 +1,122 @@
-// A small lottery over glyph slots: makes a tree, draws from it until it is empty, and prints what it did.
+// The glyph cache of a sign over page loads: glyphs come and go, the heap is bounded, and eviction is by lottery.
 //
-// A slot's weight is the bytes of its bitmap. A drawn slot is evicted: its weight becomes 0, and its bytes are free.
+// A slot's weight is the bytes of its bitmap. A page loads the glyphs that it wants and the cache lacks; then, while
+// more than three quarters of the heap are in use, slots are drawn from the tree with the page's words, their bitmaps
+// are freed, and the last slot's glyph moves into each. With --fault the last slot is popped as an old build did.
+mod arguments;
+mod cache;
+mod check;
+mod fault;
+mod glyph;
+mod report;
+mod run;
+mod share;
+mod source;
+mod sums;
+mod text;
+
+use arguments::Settings;
+use cache::Limits;
 use libc::STDOUT_FILENO;
-use refusal::Counted;
-use refusal::Drawn;
-use refusal::Weighed;
+use run::Plan;
+use run::Run;
 
-fn say(text: &[u8]) {
-    io::write_all(STDOUT_FILENO, text);
-}
+const SLOTS: usize = 4096;
 
-fn show(number: u64) {
-    io::print_decimal(STDOUT_FILENO, number);
-}
-
-// The weight of a slot, and 0 where it can't be had.
-fn weight(store: &[u64], count: usize, index: usize) -> u64 {
-    match weighted_tree::get(store, count, index) {
-        Weighed::Weight(w) => w,
-        Weighed::Refused(_) => 0,
+// How many pages a row of the table stands for.
+fn every(settings: Settings) -> u64 {
+    if settings.is_csv {
+        return 1;
     }
-}
-
-// Evicts a drawn slot, and says what came free.
-fn evict(store: &mut [u64], count: usize, index: usize, words: usize) {
-    say(b"drew slot ");
-    show(index as u64);
-    say(b" with ");
-    show(words as u64);
-    say(b" words: ");
-    show(weight(store, count, index));
-    say(b" bytes freed\n");
-    weighted_tree::update(store, count, index, 0);
-}
-
-// One draw from the words left: how many it used, and 0 where nothing is left to draw.
-fn draw(store: &mut [u64], count: usize, pool: &[u64]) -> usize {
-    let drawing = weighted_tree::draw(store, count, pool);
-    let used = drawing.words;
-    let outcome = drawing.outcome;
-    match outcome {
-        Drawn::Index(index) => {
-            evict(store, count, index, used);
-            used
-        }
-        Drawn::Refused(reason) => {
-            say(b"no draw: refusal ");
-            show(reason.number());
-            say(b"\n");
-            0
-        }
+    if arguments::MOST_PAGES < settings.pages {
+        return 1;
     }
+    (settings.pages + 23) / 24
 }
 
-// Draws until a draw is refused. Each draw that is not uses a word of the pool.
-fn draw_all(store: &mut [u64], count: usize, pool: &[u64]) {
-    let mut at = 0;
-    while at < pool.len() {
-        let used = draw(store, count, &pool[at..]);
-        if used == 0 {
-            return;
-        }
-        if pool.len() - at < used {
-            return;
-        }
-        at = at + used;
+// What is printed at the end.
+fn conclude(store: &[u64], glyphs: &[u64], classes: &[u64], ended: Run, is_csv: bool) {
+    let cache = ended.cache;
+    if is_csv {
+        report::shares_csv(classes);
+        return;
     }
+    report::checks(store, glyphs, cache);
+    report::seen(ended.seen);
+    report::shares(classes, cache.draws);
+}
+
+// The run, in lent memory, from an empty heap to the report.
+fn perform(
+    store: &mut [u64],
+    glyphs: &mut [u64],
+    homes: &mut [u64],
+    classes: &mut [u64],
+    file: &[u8],
+    count: usize,
+    settings: Settings,
+) {
+    let limits = Limits {
+        heap: settings.heap,
+        slots: settings.slots,
+        is_faulty: settings.is_faulty,
+    };
+    let plan = Plan {
+        pages: settings.pages,
+        every: every(settings),
+        is_csv: settings.is_csv,
+    };
+    let begun = Run::new(count, settings.words != 0);
+    report::head(limits, settings.is_csv);
+    let ended = run::pages(store, glyphs, homes, classes, file, begun, limits, plan);
+    conclude(store, glyphs, classes, ended, settings.is_csv);
+}
+
+fn simulate(settings: Settings, file: &[u8]) {
+    let mut store = [0u64; SLOTS];
+    let mut glyphs = [0u64; SLOTS];
+    let mut homes = [0u64; SLOTS];
+    let mut classes = [0u64; share::CELLS];
+    let count = cache::settle(&mut store, &mut glyphs, &mut homes);
+    perform(
+        &mut store,
+        &mut glyphs,
+        &mut homes,
+        &mut classes,
+        file,
+        count,
+        settings,
+    );
+}
+
+// The words of a file that is named among the arguments.
+fn simulate_with_file(settings: Settings) {
+    let mut path = io::buffer();
+    let length = os::arg(settings.words, &mut path);
+    let descriptor = os::open_read(&path[..length]);
+    if descriptor < 0 {
+        os::fail(&path[..length]);
+        return;
+    }
+    let mut file = [0u8; 524288];
+    let size = io::read_full(descriptor, &mut file);
+    libc::close(descriptor);
+    simulate(settings, &file[..size]);
 }
 
 fn main() {
-    let weights = [72u64, 18, 128, 32, 9, 50];
-    let pool = [
-        9843086184167632639u64,
-        4529273174121117093,
-        18446744073709551615,
-        13791233180158426361,
-        2063491583219403917,
-        11640345187126731001,
-        7046029254386353131,
-        15922412461936124543,
-        3203431780337,
-        5871781006564002453,
-    ];
-    let mut store = [0u64; 8];
-    match weighted_tree::new(&mut store, &weights) {
-        Counted::Count(count) => {
-            say(b"six glyphs: ");
-            show(store[0]);
-            say(b" bytes\n");
-            draw_all(&mut store, count, &pool);
-        }
-        Counted::Refused(reason) => {
-            say(b"no tree: refusal ");
-            show(reason.number());
-            say(b"\n");
-        }
+    let settings = arguments::read();
+    if settings.is_bad {
+        arguments::complain();
+        return;
+    }
+    if settings.is_help {
+        arguments::usage(STDOUT_FILENO);
+        return;
+    }
+    if settings.words == 0 {
+        simulate(settings, b"");
+    } else {
+        simulate_with_file(settings);
     }
 }
