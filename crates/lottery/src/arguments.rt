@@ -1,7 +1,9 @@
 // What the program is asked for.
 use crate::text;
 use crate::text::Read;
+use crate::text::same;
 use libc::STDERR_FILENO;
+ghost use Prim.Native.Nat.{_≤_};
 
 pub const MOST_PAGES: u64 = 100000;
 
@@ -37,48 +39,51 @@ enum Flag {
     Unknown,
 }
 
-fn flag_of(name: &[u8]) -> Flag {
-    if text::same(name, b"--pages") {
-        Flag::Pages
-    } else if text::same(name, b"--heap") {
-        Flag::Heap
-    } else if text::same(name, b"--slots") {
-        Flag::Slots
-    } else if text::same(name, b"--words") {
-        Flag::Words
-    } else if text::same(name, b"--fault") {
+// An option with no value.
+fn switch_named(name: &[u8]) -> Flag {
+    if same(name, b"--fault") {
         Flag::Fault
-    } else if text::same(name, b"--csv") {
+    } else if same(name, b"--csv") {
         Flag::Csv
-    } else if text::same(name, b"--help") {
+    } else if same(name, b"--help") {
         Flag::Help
     } else {
         Flag::Unknown
     }
 }
 
-fn option_at(place: usize) -> Flag {
-    let mut name = io::buffer();
-    let length = os::arg(place, &mut name);
-    flag_of(&name[..length])
+// Any option.
+fn flag_named(name: &[u8]) -> Flag {
+    if same(name, b"--pages") {
+        Flag::Pages
+    } else if same(name, b"--heap") {
+        Flag::Heap
+    } else if same(name, b"--slots") {
+        Flag::Slots
+    } else if same(name, b"--words") {
+        Flag::Words
+    } else {
+        switch_named(name)
+    }
 }
 
-// The number that stands at a place, if it is one from the least to the most.
-fn number_at(place: usize, least: u64, most: u64) -> Read {
+fn flag_at(place: usize) -> Flag {
+    let mut name = io::buffer();
+    let length = os::arg(place, &mut name);
+    flag_named(&name[..length])
+}
+
+fn number_at(place: usize) -> Read {
     let mut digits = io::buffer();
     let length = os::arg(place, &mut digits);
-    match text::number(&digits[..length]) {
-        Read::Number(value) => {
-            if value < least {
-                return Read::Bad;
-            }
-            if most < value {
-                return Read::Bad;
-            }
-            Read::Number(value)
-        }
-        Read::Bad => Read::Bad,
+    text::number(&digits[..length])
+}
+
+fn is_within(value: u64, least: u64, most: u64) -> bool {
+    if value < least {
+        return false;
     }
+    value <= most
 }
 
 impl Settings {
@@ -95,108 +100,98 @@ impl Settings {
         }
     }
 
-    fn bad(mut self) -> Settings {
-        self.is_bad = true;
-        self
-    }
-
-    fn pages(mut self, place: usize) -> Settings {
-        match number_at(place, 1, MOST_PAGES) {
-            Read::Number(value) => {
+    // The settings with a number of pages, bytes or slots.
+    fn with(mut self, flag: Flag, value: u64) -> Settings {
+        match flag {
+            Flag::Pages => {
                 self.pages = value;
-                self
+                self.is_bad = self.is_bad || !is_within(value, 1, MOST_PAGES);
             }
-            Read::Bad => self.bad(),
-        }
-    }
-
-    fn heap(mut self, place: usize) -> Settings {
-        match number_at(place, LEAST_HEAP, MOST_HEAP) {
-            Read::Number(value) => {
+            Flag::Heap => {
                 self.heap = value;
-                self
+                self.is_bad = self.is_bad || !is_within(value, LEAST_HEAP, MOST_HEAP);
             }
-            Read::Bad => self.bad(),
-        }
-    }
-
-    fn slots(mut self, place: usize) -> Settings {
-        match number_at(place, LEAST_SLOTS, MOST_SLOTS) {
-            Read::Number(value) => {
+            _ => {
                 self.slots = value;
+                self.is_bad = self.is_bad || !is_within(value, LEAST_SLOTS, MOST_SLOTS);
+            }
+        }
+        self
+    }
+
+    // The settings with a number that stands at a place.
+    fn with_number(mut self, flag: Flag, place: usize) -> Settings {
+        match number_at(place) {
+            Read::Number(value) => self.with(flag, value),
+            Read::Bad => {
+                self.is_bad = true;
                 self
             }
-            Read::Bad => self.bad(),
         }
     }
 
-    fn words(mut self, place: usize, count: usize) -> Settings {
-        if count <= place {
-            return self.bad();
+    // The settings with an option that has no number.
+    fn switched(mut self, flag: Flag, next: usize, count: usize) -> Settings {
+        match flag {
+            Flag::Words => {
+                self.words = next;
+                self.is_bad = self.is_bad || count <= next;
+            }
+            Flag::Fault => {
+                self.is_faulty = true;
+            }
+            Flag::Csv => {
+                self.is_csv = true;
+            }
+            Flag::Help => {
+                self.is_help = true;
+            }
+            _ => {
+                self.is_bad = true;
+            }
         }
-        self.words = place;
         self
-    }
-
-    fn fault(mut self) -> Settings {
-        self.is_faulty = true;
-        self
-    }
-
-    fn csv(mut self) -> Settings {
-        self.is_csv = true;
-        self
-    }
-
-    fn help(mut self) -> Settings {
-        self.is_help = true;
-        self
-    }
-
-    // The settings after the option at a place, whose value stands at the next.
-    fn option(self, place: usize, next: usize, count: usize) -> Settings {
-        match option_at(place) {
-            Flag::Pages => self.pages(next),
-            Flag::Heap => self.heap(next),
-            Flag::Slots => self.slots(next),
-            Flag::Words => self.words(next, count),
-            Flag::Fault => self.fault(),
-            Flag::Csv => self.csv(),
-            Flag::Help => self.help(),
-            Flag::Unknown => self.bad(),
-        }
-    }
-}
-
-// Whether the option at a place has a value behind it.
-fn has_value(place: usize) -> bool {
-    match option_at(place) {
-        Flag::Pages => true,
-        Flag::Heap => true,
-        Flag::Slots => true,
-        Flag::Words => true,
-        _ => false,
     }
 }
 
 // The most arguments that are looked at: each option twice is fewer.
 const MOST_ARGUMENTS: usize = 32;
 
+// The settings after the option at a place, whose value may stand at the next.
+fn option(settings: Settings, flag: Flag, next: usize, count: usize) -> Settings {
+    match flag {
+        Flag::Pages => settings.with_number(flag, next),
+        Flag::Heap => settings.with_number(flag, next),
+        Flag::Slots => settings.with_number(flag, next),
+        _ => settings.switched(flag, next, count),
+    }
+}
+
+// How many arguments an option takes.
+fn width(flag: Flag) -> usize
+    ensures { λ r. ⌜ (1 ≤ r) × (r ≤ 2) ⌝ }
+{
+    match flag {
+        Flag::Pages => 2,
+        Flag::Heap => 2,
+        Flag::Slots => 2,
+        Flag::Words => 2,
+        _ => 1,
+    }
+}
+
 pub fn read() -> Settings {
     let count = os::arg_count();
     let mut settings = Settings::new();
     if MOST_ARGUMENTS < count {
-        return settings.bad();
+        settings.is_bad = true;
+        return settings;
     }
     let mut place = 1;
     while place < count {
-        let next = place + 1;
-        settings = settings.option(place, next, count);
-        if has_value(place) {
-            place = place + 2;
-        } else {
-            place = next;
-        }
+        let flag = flag_at(place);
+        settings = option(settings, flag, place + 1, count);
+        place = place + width(flag);
     }
     settings
 }
@@ -204,34 +199,22 @@ pub fn read() -> Settings {
 pub fn usage(out: i32) {
     io::write_all(
         out,
-        b"usage: lottery [--pages N] [--heap BYTES] [--slots N] [--words FILE] [--fault] [--csv]\n\n",
+        b"usage: lottery [--pages N] [--heap BYTES] [--slots N] [--words FILE] [--fault] [--csv]
+
+Loads pages of glyphs into a bounded heap, and evicts glyphs by lottery.
+
+  --pages N     how many pages, 1 to 100000 (600)
+  --heap BYTES  the heap for bitmaps, 65536 to 1073741824 (8388608)
+  --slots N     the most slots, 513 to 4096 (4096); the first 512 are for glyphs in flash
+  --words FILE  the words for the draws, eight bytes each, the highest first; a page is lent 64
+  --fault       pop as the old build did, which left the weight in the grandparents
+  --csv         every page, with commas
+  --help        this text
+",
     );
-    io::write_all(
-        out,
-        b"Loads pages of glyphs into a bounded heap, and evicts glyphs by lottery.\n\n",
-    );
-    io::write_all(out, b"  --pages N     how many pages, 1 to 100000 (600)\n");
-    io::write_all(
-        out,
-        b"  --heap BYTES  the heap for bitmaps, 65536 to 1073741824 (8388608)\n",
-    );
-    io::write_all(
-        out,
-        b"  --slots N     the most slots, 513 to 4096 (4096); the first 512 are for glyphs in flash\n",
-    );
-    io::write_all(
-        out,
-        b"  --words FILE  words for the draws, eight bytes each, the highest first; the first 65536 are used\n",
-    );
-    io::write_all(
-        out,
-        b"  --fault       pop as the old build did, which left the weight in the grandparents\n",
-    );
-    io::write_all(out, b"  --csv         every page, with commas\n");
-    io::write_all(out, b"  --help        this text\n");
 }
 
-// Says what is wrong with the arguments: they are none of these.
+// Says that the arguments are none of these.
 pub fn complain() {
     io::write_all(
         STDERR_FILENO,

@@ -1,20 +1,16 @@
 // The glyph cache: a slot has a glyph and, in the tree, the bytes of its bitmap as its weight.
-//
-// glyphs holds each slot's glyph, homes each glyph's slot plus one, or 0 where it has none.
+use crate::book;
 use crate::fault;
 use crate::glyph;
 use crate::glyph::size_of;
 use crate::share;
 use crate::source::Generator;
-use crate::sums::cell;
 use crate::sums::minus;
 use crate::sums::plus;
-use crate::sums::put;
 use refusal::Counted;
 use refusal::Drawn;
 use refusal::Popped;
 ghost use Prim.Native.Nat.{_<_, _≤_};
-ghost use lib.ListN.{length};
 
 const FLASH_SLOTS: usize = glyph::IN_FLASH as usize;
 
@@ -38,19 +34,6 @@ pub struct Cache {
 }
 
 impl Cache {
-    pub fn new(count: usize) -> Cache {
-        Cache {
-            count,
-            held: 0,
-            given: 0,
-            freed: 0,
-            draws: 0,
-            empty: 0,
-            words: 0,
-            refused: 0,
-        }
-    }
-
     fn gives(mut self, size: u64, count: usize) -> Cache {
         self.count = count;
         self.held = plus(self.held, size);
@@ -83,7 +66,7 @@ impl Cache {
     }
 
     // Whether a bitmap more fits into the heap, and a slot more into the tree.
-    pub fn has_room(self, size: u64, limits: Limits) -> bool {
+    fn has_room(self, size: u64, limits: Limits) -> bool {
         if limits.heap < plus(self.held, size) {
             return false;
         }
@@ -91,7 +74,7 @@ impl Cache {
     }
 
     // Whether draws are to make room: more than three quarters of the heap or of the slots are in use.
-    pub fn is_crowded(self, limits: Limits) -> bool {
+    fn is_crowded(self, limits: Limits) -> bool {
         if limits.heap - limits.heap / 4 < self.held {
             return true;
         }
@@ -99,42 +82,34 @@ impl Cache {
     }
 }
 
-// Enters the glyphs in flash.
-fn enter(glyphs: &mut [u64], homes: &mut [u64]) {
-    let mut i = 0;
-    while i < glyph::IN_FLASH {
-        put(glyphs, i as usize, i);
-        put(homes, i as usize, i + 1);
-        i = i + 1;
-    }
-}
-
-// Begins with the glyphs in flash in the first slots, at weight 0, and says how many slots that are.
-pub fn settle(store: &mut [u64], glyphs: &mut [u64], homes: &mut [u64]) -> usize {
-    enter(glyphs, homes);
+// Begins with the glyphs in flash in the first slots, at weight 0.
+pub fn begin(store: &mut [u64], book: &mut [u64]) -> Cache {
+    book::begin(book);
     let weights = [0u64; FLASH_SLOTS];
-    match weighted_tree::new(store, &weights) {
+    let count = match weighted_tree::new(store, &weights) {
         Counted::Count(count) => count,
         Counted::Refused(_) => 0,
+    };
+    Cache {
+        count,
+        held: 0,
+        given: 0,
+        freed: 0,
+        draws: 0,
+        empty: 0,
+        words: 0,
+        refused: 0,
     }
 }
 
 // Gives a glyph a slot and a bitmap.
-fn load(
-    store: &mut [u64],
-    glyphs: &mut [u64],
-    homes: &mut [u64],
-    classes: &mut [u64],
-    cache: Cache,
-    wanted: u64,
-) -> Cache {
+fn load(store: &mut [u64], book: &mut [u64], cache: Cache, wanted: u64) -> Cache {
     let slot = cache.count;
     let size = size_of(wanted);
     match weighted_tree::push(store, slot, size) {
         Counted::Count(count) => {
-            put(glyphs, slot, wanted);
-            put(homes, wanted as usize, count as u64);
-            share::give(classes, size);
+            book::enter(book, slot, wanted);
+            share::give(book, size);
             cache.gives(size, count)
         }
         Counted::Refused(_) => cache.is_refused(),
@@ -142,25 +117,17 @@ fn load(
 }
 
 // Loads a glyph that the cache lacks, where there is room for it.
-fn want(
-    store: &mut [u64],
-    glyphs: &mut [u64],
-    homes: &mut [u64],
-    classes: &mut [u64],
-    cache: Cache,
-    wanted: u64,
-    limits: Limits,
-) -> Cache {
-    if cell(homes, wanted as usize) != 0 {
+fn want(store: &mut [u64], book: &mut [u64], cache: Cache, wanted: u64, limits: Limits) -> Cache {
+    if book::has(book, wanted) {
         return cache;
     }
     if !cache.has_room(size_of(wanted), limits) {
         return cache;
     }
-    load(store, glyphs, homes, classes, cache, wanted)
+    load(store, book, cache, wanted)
 }
 
-// A page's glyphs: the cache after them, the words they were chosen by, and whether all found room.
+// A page's glyphs: the cache after them, the generator that chose them, and whether all found room.
 pub struct Loaded {
     pub cache: Cache,
     pub chooser: Generator,
@@ -170,9 +137,7 @@ pub struct Loaded {
 // Loads what a page wants.
 pub fn load_page(
     store: &mut [u64],
-    glyphs: &mut [u64],
-    homes: &mut [u64],
-    classes: &mut [u64],
+    book: &mut [u64],
     cache: Cache,
     chooser: Generator,
     limits: Limits,
@@ -184,8 +149,8 @@ pub fn load_page(
     while i < glyph::PAGE_GLYPHS {
         by = by.next();
         let wanted = glyph::wanted(by);
-        now = want(store, glyphs, homes, classes, now, wanted, limits);
-        if cell(homes, wanted as usize) == 0 {
+        now = want(store, book, now, wanted, limits);
+        if !book::has(book, wanted) {
             is_shown = false;
         }
         i = i + 1;
@@ -197,7 +162,7 @@ pub fn load_page(
     }
 }
 
-// Takes the last slot off the tree, as the old build did where that is asked for.
+// Takes the last slot off the tree, as the old build did where that is asked for. Says how many slots are left.
 fn pop(store: &mut [u64], count: usize, is_faulty: bool) -> usize {
     if is_faulty {
         return fault::pop(store, count);
@@ -209,41 +174,29 @@ fn pop(store: &mut [u64], count: usize, is_faulty: bool) -> usize {
 }
 
 // Gives a slot the last slot's weight, and takes the last slot off the tree.
-fn remove(store: &mut [u64], count: usize, slot: usize, last: u64, is_faulty: bool) -> usize {
-    weighted_tree::update(store, count, slot, size_of(last));
-    pop(store, count, is_faulty)
-}
-
-// Moves the last slot's glyph into a slot. The slot's own glyph has none any more.
-fn move_glyph(glyphs: &mut [u64], homes: &mut [u64], slot: usize, last: u64) {
-    let evicted = cell(glyphs, slot);
-    put(glyphs, slot, last);
-    put(homes, last as usize, plus(slot as u64, 1));
-    put(homes, evicted as usize, 0);
+fn remove(store: &mut [u64], count: usize, slot: usize, weight: u64, is_faulty: bool) -> usize {
+    match weighted_tree::update(store, count, slot, weight) {
+        Counted::Count(_) => pop(store, count, is_faulty),
+        Counted::Refused(_) => count,
+    }
 }
 
 // Frees the bitmap of a slot, and moves the last slot's glyph into it.
-fn evict(
-    store: &mut [u64],
-    glyphs: &mut [u64],
-    homes: &mut [u64],
-    classes: &mut [u64],
-    cache: Cache,
-    slot: usize,
-    is_faulty: bool,
-) -> Cache {
+fn evict(store: &mut [u64], book: &mut [u64], cache: Cache, slot: usize, is_faulty: bool) -> Cache {
     let count = cache.count;
-    let size = size_of(cell(glyphs, slot));
+    let evicted = book::glyph_in(book, slot);
+    let size = size_of(evicted);
     if size == 0 {
         return cache.frees_nothing();
     }
-    let last = cell(glyphs, std::num::wrapping_sub_usize(count, 1));
-    let left = remove(store, count, slot, last, is_faulty);
+    let last = book::glyph_in(book, std::num::wrapping_sub_usize(count, 1));
+    let left = remove(store, count, slot, size_of(last), is_faulty);
     if left == count {
         return cache.is_refused();
     }
-    move_glyph(glyphs, homes, slot, last);
-    share::free(classes, size);
+    book::enter(book, slot, last);
+    book::forget(book, evicted);
+    share::free(book, size);
     cache.frees(size, left)
 }
 
@@ -253,24 +206,18 @@ struct Turn {
     used: usize,
 }
 
-fn draw(
-    store: &mut [u64],
-    glyphs: &mut [u64],
-    homes: &mut [u64],
-    classes: &mut [u64],
-    pool: &[u64],
-    cache: Cache,
-    is_faulty: bool,
-) -> Turn {
+fn draw(store: &mut [u64], book: &mut [u64], pool: &[u64], cache: Cache, is_faulty: bool) -> Turn {
     let drawing = weighted_tree::draw(store, cache.count, pool);
     let used = drawing.words;
     let outcome = drawing.outcome;
     match outcome {
         Drawn::Index(slot) => {
-            share::count(classes, size_of(cell(glyphs, slot)), cache.held);
+            share::count(book, size_of(book::glyph_in(book, slot)), cache.held);
             let drawn = cache.draws(used);
-            let after = evict(store, glyphs, homes, classes, drawn, slot, is_faulty);
-            Turn { cache: after, used }
+            Turn {
+                cache: evict(store, book, drawn, slot, is_faulty),
+                used,
+            }
         }
         Drawn::Refused(_) => Turn {
             cache: cache.is_refused(),
@@ -293,42 +240,23 @@ fn place_after(at: usize, used: usize, end: usize) -> usize
     at + used
 }
 
-// Draws and evicts until the cache is no longer crowded or the first words of the pool end.
+// Draws and evicts until the cache is no longer crowded or the words of the pool end.
 pub fn sweep(
     store: &mut [u64],
-    glyphs: &mut [u64],
-    homes: &mut [u64],
-    classes: &mut [u64],
+    book: &mut [u64],
     pool: &[u64],
-    lent: usize,
     cache: Cache,
     limits: Limits,
 ) -> Cache {
     let mut now = cache;
-    let end = least(lent, pool);
     let mut at = 0;
-    while at < end {
+    while at < pool.len() {
         if !now.is_crowded(limits) {
             return now;
         }
-        let turn = draw(
-            store,
-            glyphs,
-            homes,
-            classes,
-            &pool[at..end],
-            now,
-            limits.is_faulty,
-        );
+        let turn = draw(store, book, &pool[at..], now, limits.is_faulty);
         now = turn.cache;
-        at = place_after(at, turn.used, end);
+        at = place_after(at, turn.used, pool.len());
     }
     now
-}
-
-// How many words are lent: no more than the pool has.
-fn least(lent: usize, pool: &[u64]) -> usize
-    ensures { λ r. ⌜ r ≤ length (now (pool .entry)) ⌝ }
-{
-    if pool.len() < lent { pool.len() } else { lent }
 }

@@ -1,4 +1,5 @@
 // What is checked after each page: the tree against the bitmaps that the cache holds.
+use crate::book;
 use crate::cache::Cache;
 use crate::glyph::size_of;
 use crate::sums::cell;
@@ -14,7 +15,7 @@ pub struct Seen {
     pub unshown: u64,
     pub pages_unshown: u64,
     pub pages: u64,
-    pub out_of_words: bool,
+    pub is_out_of_words: bool,
 }
 
 // The page at which something was seen first, after one more page.
@@ -39,11 +40,11 @@ fn is_right(store: &[u64], count: usize, slot: usize, glyph: u64) -> bool {
 }
 
 // How many slots have a weight that is not their bitmap's size.
-pub fn wrong_slots(store: &[u64], glyphs: &[u64], count: usize) -> u64 {
+pub fn wrong_slots(store: &[u64], book: &[u64], count: usize) -> u64 {
     let mut wrong: u64 = 0;
     let mut slot = 0;
     while slot < count {
-        if !is_right(store, count, slot, cell(glyphs, slot)) {
+        if !is_right(store, count, slot, book::glyph_in(book, slot)) {
             wrong = crate::sums::plus(wrong, 1);
         }
         slot = slot + 1;
@@ -70,7 +71,7 @@ impl Seen {
             unshown: 0,
             pages_unshown: 0,
             pages: 0,
-            out_of_words: false,
+            is_out_of_words: false,
         }
     }
 
@@ -85,18 +86,18 @@ impl Seen {
     }
 
     // After the checks of a page.
-    pub fn checked(mut self, store: &[u64], glyphs: &[u64], cache: Cache) -> Seen {
+    pub fn checked(mut self, store: &[u64], book: &[u64], cache: Cache) -> Seen {
         let page = self.pages;
         let count = cache.count;
         self.total = first(self.total, page, total(store, count) != cache.held);
-        self.slot = first(self.slot, page, 0 < wrong_slots(store, glyphs, count));
+        self.slot = first(self.slot, page, 0 < wrong_slots(store, book, count));
         self.empty = first(self.empty, page, 0 < cache.empty);
         self.unsound = first(self.unsound, page, !is_sound(store, count));
         self
     }
 
     pub fn words_ended(mut self) -> Seen {
-        self.out_of_words = true;
+        self.is_out_of_words = true;
         self
     }
 }

@@ -12,9 +12,6 @@ pub const IN_FLASH: u64 = 512;
 // How many glyphs a page wants.
 pub const PAGE_GLYPHS: u64 = 24;
 
-// How many classes of weight there are: 0 bytes, and 2 KB, 4 KB, 8 KB, 16 KB and 32 KB up to twice that.
-pub const CLASSES: usize = 6;
-
 // A number that depends on a glyph alone.
 fn mixed(glyph: u64) -> u64 {
     shifted(shifted(shifted(std::num::wrapping_add_u64(glyph, 88172645463325252))))

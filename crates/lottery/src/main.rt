@@ -4,6 +4,7 @@
 // more than three quarters of the heap are in use, slots are drawn from the tree with the page's words, their bitmaps
 // are freed, and the last slot's glyph moves into each. With --fault the last slot is popped as an old build did.
 mod arguments;
+mod book;
 mod cache;
 mod check;
 mod fault;
@@ -17,9 +18,12 @@ mod text;
 
 use arguments::Settings;
 use cache::Limits;
+use check::Seen;
 use libc::STDOUT_FILENO;
 use run::Plan;
 use run::Run;
+use source::Generator;
+use source::Source;
 
 const SLOTS: usize = 4096;
 
@@ -35,27 +39,21 @@ fn every(settings: Settings) -> u64 {
 }
 
 // What is printed at the end.
-fn conclude(store: &[u64], glyphs: &[u64], classes: &[u64], ended: Run, is_csv: bool) {
+fn conclude(store: &[u64], book: &[u64], ended: Run, limits: Limits, is_csv: bool) {
     let cache = ended.cache;
     if is_csv {
-        report::shares_csv(classes);
+        report::shares_csv(book);
         return;
     }
-    report::checks(store, glyphs, cache);
-    report::seen(ended.seen);
-    report::shares(classes, cache.draws);
+    report::checks(store, book, cache, limits);
+    let seen = ended.seen;
+    report::seen(seen);
+    report::remarks(seen, limits);
+    report::shares(book, cache.draws);
 }
 
 // The run, in lent memory, from an empty heap to the report.
-fn perform(
-    store: &mut [u64],
-    glyphs: &mut [u64],
-    homes: &mut [u64],
-    classes: &mut [u64],
-    file: &[u8],
-    count: usize,
-    settings: Settings,
-) {
+fn perform(store: &mut [u64], book: &mut [u64], settings: Settings, source: Source) {
     let limits = Limits {
         heap: settings.heap,
         slots: settings.slots,
@@ -66,42 +64,34 @@ fn perform(
         every: every(settings),
         is_csv: settings.is_csv,
     };
-    let begun = Run::new(count, settings.words != 0);
-    report::head(limits, settings.is_csv);
-    let ended = run::pages(store, glyphs, homes, classes, file, begun, limits, plan);
-    conclude(store, glyphs, classes, ended, settings.is_csv);
+    report::head(limits, plan.is_csv);
+    let begun = Run {
+        cache: cache::begin(store, book),
+        seen: Seen::new(),
+        source,
+        chooser: Generator::new(521288629),
+    };
+    let ended = run::pages(store, book, begun, limits, plan);
+    conclude(store, book, ended, limits, plan.is_csv);
 }
 
-fn simulate(settings: Settings, file: &[u8]) {
+fn simulate(settings: Settings, source: Source) {
     let mut store = [0u64; SLOTS];
-    let mut glyphs = [0u64; SLOTS];
-    let mut homes = [0u64; SLOTS];
-    let mut classes = [0u64; share::CELLS];
-    let count = cache::settle(&mut store, &mut glyphs, &mut homes);
-    perform(
-        &mut store,
-        &mut glyphs,
-        &mut homes,
-        &mut classes,
-        file,
-        count,
-        settings,
-    );
+    let mut book = [0u64; book::CELLS];
+    perform(&mut store, &mut book, settings, source);
 }
 
-// The words of a file that is named among the arguments.
+// With the words of a file that is named among the arguments.
 fn simulate_with_file(settings: Settings) {
     let mut path = io::buffer();
     let length = os::arg(settings.words, &mut path);
-    let descriptor = os::open_read(&path[..length]);
-    if descriptor < 0 {
+    let file = os::open_read(&path[..length]);
+    if file < 0 {
         os::fail(&path[..length]);
         return;
     }
-    let mut file = [0u8; 524288];
-    let size = io::read_full(descriptor, &mut file);
-    libc::close(descriptor);
-    simulate(settings, &file[..size]);
+    simulate(settings, Source::new(true, file));
+    libc::close(file);
 }
 
 fn main() {
@@ -115,7 +105,7 @@ fn main() {
         return;
     }
     if settings.words == 0 {
-        simulate(settings, b"");
+        simulate(settings, Source::new(false, 0));
     } else {
         simulate_with_file(settings);
     }

@@ -3,8 +3,8 @@ use crate::cache::Cache;
 use crate::cache::Limits;
 use crate::check;
 use crate::check::Seen;
-use crate::glyph::CLASSES;
 use crate::share;
+use crate::share::CLASSES;
 use crate::sums::minus;
 use crate::sums::plus;
 use crate::text::column;
@@ -113,9 +113,9 @@ fn promise_of(draws: u64) -> u64 {
     draws * share::WHOLE
 }
 
-fn class_row(classes: &[u64], class: usize, draws: u64) {
-    let drawn = share::drawn(classes, class);
-    let promised = share::promised(classes, class);
+fn class_row(book: &[u64], class: usize, draws: u64) {
+    let drawn = share::drawn(book, class);
+    let promised = share::promised(book, class);
     name(class);
     column(drawn);
     column(plus(promised, share::WHOLE / 2) / share::WHOLE);
@@ -127,36 +127,34 @@ fn class_row(classes: &[u64], class: usize, draws: u64) {
 }
 
 // A line for each class of weight.
-pub fn shares(classes: &[u64], draws: u64) {
+pub fn shares(book: &[u64], draws: u64) {
     say(b"\nbytes of bitmap      drawn  promised    drawn %  promised %\n");
     let mut class = 0;
     while class < CLASSES {
-        class_row(classes, class, draws);
+        class_row(book, class, draws);
         class = class + 1;
     }
 }
 
-fn class_csv(classes: &[u64], class: usize) {
+fn class_csv(book: &[u64], class: usize) {
     show(class as u64);
-    item(share::drawn(classes, class), true);
-    item(share::promised(classes, class), true);
+    item(share::drawn(book, class), true);
+    item(share::promised(book, class), true);
     say(b"\n");
 }
 
 // The same with commas: what is promised stands in parts of 1,048,576 of a draw.
-pub fn shares_csv(classes: &[u64]) {
+pub fn shares_csv(book: &[u64]) {
     say(b"\nclass,drawn,promised\n");
     let mut class = 0;
     while class < CLASSES {
-        class_csv(classes, class);
+        class_csv(book, class);
         class = class + 1;
     }
 }
 
-// What became of the bytes, and whether the tree says the same as the bitmaps.
-pub fn checks(store: &[u64], glyphs: &[u64], cache: Cache) {
-    let count = cache.count;
-    let weight = check::total(store, count);
+// What became of the bytes.
+fn bytes(cache: Cache, limits: Limits) {
     line(
         b"\nbytes given out                                  ",
         cache.given,
@@ -169,6 +167,15 @@ pub fn checks(store: &[u64], glyphs: &[u64], cache: Cache) {
         b"bytes held                                       ",
         cache.held,
     );
+    let mark = limits.heap - limits.heap / 4;
+    line(
+        b"bytes held above three quarters of the heap      ",
+        minus(cache.held, mark),
+    );
+}
+
+// What the tree says.
+fn weights(store: &[u64], book: &[u64], cache: Cache, weight: u64) {
     line(b"weight of all slots                              ", weight);
     line(
         b"weight that belongs to no bitmap                 ",
@@ -179,23 +186,30 @@ pub fn checks(store: &[u64], glyphs: &[u64], cache: Cache) {
         cache.empty,
     );
     line(
-        b"slots whose weight is not their bitmap's bytes   ",
-        check::wrong_slots(store, glyphs, count),
-    );
-    line(
         b"calls of the tree that were refused              ",
         cache.refused,
     );
+    let wrong = check::wrong_slots(store, book, cache.count);
+    line(b"slots whose weight is not their bitmap's bytes   ", wrong);
+}
+
+// Whether the tree says the same as the bitmaps.
+pub fn checks(store: &[u64], book: &[u64], cache: Cache, limits: Limits) {
+    let count = cache.count;
+    let weight = check::total(store, count);
+    let known = plus(cache.freed, cache.held);
+    bytes(cache, limits);
+    weights(store, book, cache, weight);
     verdict(
         b"every byte given out was freed or is held        ",
-        cache.given == plus(cache.freed, cache.held),
+        cache.given == known,
     );
     verdict(
         b"the weight of all slots is the bytes held        ",
         weight == cache.held,
     );
     verdict(
-        b"the whole-store check finds every cell sound     ",
+        b"is_sound, the whole-store check, says yes        ",
         check::is_sound(store, count),
     );
 }
@@ -216,7 +230,7 @@ pub fn seen(seen: Seen) {
         seen.empty,
     );
     first(
-        b"  the whole-store check says no                  ",
+        b"  is_sound, the whole-store check, says no       ",
         seen.unsound,
     );
     first(
@@ -224,14 +238,23 @@ pub fn seen(seen: Seen) {
         seen.unshown,
     );
     line(
-        b"pages that could not be shown, of all            ",
-        seen.pages_unshown,
-    );
-    line(
         b"pages                                            ",
         seen.pages,
     );
-    if seen.out_of_words {
-        say(b"stopped there: the file's words ended\n");
+    line(
+        b"pages that could not be shown                    ",
+        seen.pages_unshown,
+    );
+}
+
+// What a reader may wonder about.
+pub fn remarks(seen: Seen, limits: Limits) {
+    if seen.is_out_of_words {
+        say(b"the file has no words for a page more\n");
+    }
+    if limits.is_faulty {
+        say(
+            b"\nWeight that is left behind makes a cell larger than its children, never smaller: is_sound can't see it.\n",
+        );
     }
 }

@@ -1,19 +1,14 @@
 // Words: from a generator of this program alone, or from a file, eight bytes a word, the highest byte first.
 
-// The words that a page's draws are lent at most.
+// The words that a page's draws are lent.
 pub const PAGE_WORDS: usize = 64;
+
+const PAGE_BYTES: usize = 512;
 
 // A generator: a shift register, and a counter that is added to what it gives.
 pub struct Generator {
     pub register: u64,
     pub counter: u64,
-}
-
-// Where the words come from: the file's, from a place on, where there is a file, and else the generator's.
-pub struct Source {
-    pub is_file: bool,
-    pub at: usize,
-    pub generator: Generator,
 }
 
 // One turn of the register. It is never 0 unless it was.
@@ -43,9 +38,13 @@ impl Generator {
     }
 }
 
-// The words that a file of so many bytes has.
-pub fn words_in(file: &[u8]) -> usize {
-    file.len() / 8
+// Where the words come from: a file, from the place of a word on, or the generator.
+pub struct Source {
+    pub is_file: bool,
+    pub file: i32,
+    pub place: u64,
+    pub is_out: bool,
+    pub generator: Generator,
 }
 
 // Fills the pool from the generator.
@@ -60,66 +59,58 @@ fn generated(pool: &mut [u64], generator: Generator) -> Generator {
     now
 }
 
-// Fills the pool from the file, as far as both go, and says how many words that are.
-fn copied(pool: &mut [u64], file: &[u8], at: usize) -> usize {
+// Fills the pool from bytes, as far as both go.
+fn decode(pool: &mut [u64], bytes: &[u8]) {
     let mut i = 0;
-    let mut place = at;
     while i < pool.len() {
-        if words_in(file) <= place {
-            return i;
+        if bytes.len() / 8 <= i {
+            return;
         }
-        pool[i] = word_at(file, place);
-        place = place + 1;
+        let from = i * 8;
+        let to = from + 8;
+        pool[i] = big_endian::number(&bytes[from..to]);
         i = i + 1;
     }
-    i
 }
 
-fn word_at(file: &[u8], place: usize) -> u64 {
-    if file.len() / 8 <= place {
-        return 0;
+// Fills the pool from a file, and says whether that had enough words.
+fn copied(pool: &mut [u64], file: i32, place: u64) -> bool {
+    let mut bytes = [0u8; PAGE_BYTES];
+    if 1152921504606846975 <= place {
+        return false;
     }
-    let from = place * 8;
-    let to = from + 8;
-    big_endian::number(&file[from..to])
-}
-
-// What a source lends a page: itself after it, and how many words.
-pub struct Lent {
-    pub source: Source,
-    pub count: usize,
+    let got = libc::pread(file, &mut bytes, (place * 8) as i64);
+    decode(pool, &bytes);
+    got == 512
 }
 
 impl Source {
-    pub fn lend(self, pool: &mut [u64], file: &[u8]) -> Lent {
-        if self.is_file {
-            let at = self.at;
-            let count = copied(pool, file, at);
-            return Lent {
-                source: self,
-                count,
-            };
-        }
-        let generator = self.generator;
-        let after = generated(pool, generator);
-        let source = Source {
-            is_file: false,
-            at: self.at,
-            generator: after,
-        };
-        Lent {
-            source,
-            count: pool.len(),
+    pub fn new(is_file: bool, file: i32) -> Source {
+        Source {
+            is_file,
+            file,
+            place: 0,
+            is_out: false,
+            generator: Generator::new(2463534242),
         }
     }
 
-    // After so many words of what was lent are used.
-    pub fn used(self, words: u64) -> Source {
-        let generator = self.generator;
-        Source {
-            is_file: self.is_file,
-            at: std::num::wrapping_add_usize(self.at, words as usize),
-            generator,
+    // Lends a page its words. A file that has fewer left is out.
+    pub fn lend(mut self, pool: &mut [u64]) -> Source {
+        if self.is_file {
+            let place = self.place;
+            self.is_out = !copied(pool, self.file, place);
+            return self;
         }
+        let generator = self.generator;
+        let after = generated(pool, generator);
+        self.generator = after;
+        self
+    }
+
+    // After so many of the words that were lent are used.
+    pub fn used(mut self, words: u64) -> Source {
+        self.place = crate::sums::plus(self.place, words);
+        self
     }
 }

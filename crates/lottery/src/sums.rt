@@ -12,11 +12,6 @@ pub fn minus(a: u64, b: u64) -> u64 {
     if a < b { 0 } else { a - b }
 }
 
-// The larger and the smaller of two.
-pub fn larger(a: u64, b: u64) -> u64 {
-    if a < b { b } else { a }
-}
-
 pub fn smaller(a: u64, b: u64) -> u64 {
     if a < b { a } else { b }
 }

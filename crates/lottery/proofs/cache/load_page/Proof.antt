@@ -1,4 +1,4 @@
--- `cache::load_page` is safe and ends: the glyphs of a page are passed one by one. Assumes nothing.
+-- `cache::load_page` ends: the glyphs of a page are passed one by one. Assumes nothing.
 use Prim.Native.Nat.{_≤_, _-_}
 use mathlib.Core.Path.{_≡_}
 use borrow.Author.Needs.{needs}
@@ -7,10 +7,10 @@ use Rattle.lottery.proofs.cache.load_page.Statement.{statement}
 use Rattle.lottery.proofs.cache.load_page.Tie as tie
 
 abbrev Inv-loop : tie.InvT-loop
-Inv-loop store₀ glyphs₀ homes₀ classes₀ limits now₀ by₀ is-shown₀ i₀ store glyphs homes classes now by is-shown i = (i ≤ 24) × (length store ≡ length store₀) × (length glyphs ≡ length glyphs₀) × (length homes ≡ length homes₀) × (length classes ≡ length classes₀)
+Inv-loop store₀ book₀ limits now₀ by₀ is-shown₀ i₀ store book now by is-shown i = (i ≤ 24) × (length store ≡ length store₀) × (length book ≡ length book₀)
 
 abbrev μ-loop : tie.MeasureT-loop
-μ-loop store₀ glyphs₀ homes₀ classes₀ limits now₀ by₀ is-shown₀ i₀ store glyphs homes classes now by is-shown i = 24 - i
+μ-loop store₀ book₀ limits now₀ by₀ is-shown₀ i₀ store book now by is-shown i = 24 - i
 
 pub load-page-spec : {M : Type 1} → statement M
 load-page-spec =
@@ -23,8 +23,6 @@ load-page-spec =
     (λ c κs. search needs)
     (λ c κs. search needs)
     (λ c κs. search needs)
-    (λ c. search needs)
-    (λ c. search needs)
     (λ c. search needs)
     (λ c. search needs)
     (λ c. search needs)

@@ -7,10 +7,10 @@ use Rattle.lottery.proofs.cache.sweep.Statement.{statement}
 use Rattle.lottery.proofs.cache.sweep.Tie as tie
 
 abbrev Inv-loop : tie.InvT-loop
-Inv-loop store₀ glyphs₀ homes₀ classes₀ pool lent limits now₀ end at₀ store glyphs homes classes now at = (at ≤ end) × (end ≤ length pool) × (length store ≡ length store₀) × (length glyphs ≡ length glyphs₀) × (length homes ≡ length homes₀) × (length classes ≡ length classes₀)
+Inv-loop store₀ book₀ pool limits now₀ at₀ store book now at = (at ≤ length pool) × (length store ≡ length store₀) × (length book ≡ length book₀)
 
 abbrev μ-loop : tie.MeasureT-loop
-μ-loop store₀ glyphs₀ homes₀ classes₀ pool lent limits now₀ end at₀ store glyphs homes classes now at = end - at
+μ-loop store₀ book₀ pool limits now₀ at₀ store book now at = length pool - at
 
 pub sweep-spec : {M : Type 1} → statement M
 sweep-spec =
@@ -18,7 +18,6 @@ sweep-spec =
     (tie.spec
     Inv-loop
     μ-loop
-    (λ c κs. search needs)
     (λ c. search needs)
     (λ c κs. search needs)
     (λ c. search needs)
@@ -28,12 +27,8 @@ sweep-spec =
     (λ c. search needs)
     (λ c. search needs)
     (λ c. search needs)
-    (λ c. search needs)
-    (λ c. search needs)
     (λ c κs. search needs)
     (λ c κs. search needs)
-    (λ c. search needs)
-    (λ c. search needs)
     (λ c. search needs)
     (λ c. search needs)
     (λ c. search needs)

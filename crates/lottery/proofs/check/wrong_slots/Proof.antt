@@ -5,10 +5,10 @@ use Rattle.lottery.proofs.check.wrong_slots.Statement.{statement}
 use Rattle.lottery.proofs.check.wrong_slots.Tie as tie
 
 abbrev Inv-loop : tie.InvT-loop
-Inv-loop store glyphs count wrong₀ slot₀ wrong slot = slot ≤ count
+Inv-loop store book count wrong₀ slot₀ wrong slot = slot ≤ count
 
 abbrev μ-loop : tie.MeasureT-loop
-μ-loop store glyphs count wrong₀ slot₀ wrong slot = count - slot
+μ-loop store book count wrong₀ slot₀ wrong slot = count - slot
 
 pub wrong-slots-spec : {M : Type 1} → statement M
 wrong-slots-spec =

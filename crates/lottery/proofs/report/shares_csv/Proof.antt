@@ -5,10 +5,10 @@ use Rattle.lottery.proofs.report.shares_csv.Statement.{statement}
 use Rattle.lottery.proofs.report.shares_csv.Tie as tie
 
 abbrev Inv-loop : tie.InvT-loop
-Inv-loop classes class₀ class = class ≤ 6
+Inv-loop book class₀ class = class ≤ 6
 
 abbrev μ-loop : tie.MeasureT-loop
-μ-loop classes class₀ class = 6 - class
+μ-loop book class₀ class = 6 - class
 
 pub shares-csv-spec : {M : Type 1} → statement M
 shares-csv-spec =

@@ -7,10 +7,10 @@ use Rattle.lottery.proofs.run.pages.Statement.{statement}
 use Rattle.lottery.proofs.run.pages.Tie as tie
 
 abbrev Inv-loop : tie.InvT-loop
-Inv-loop store₀ glyphs₀ homes₀ classes₀ file limits plan now₀ done₀ most store glyphs homes classes now done = (done ≤ most) × (length store ≡ length store₀) × (length glyphs ≡ length glyphs₀) × (length homes ≡ length homes₀) × (length classes ≡ length classes₀)
+Inv-loop store₀ book₀ limits plan now₀ done₀ most store book now done = (done ≤ most) × (length store ≡ length store₀) × (length book ≡ length book₀)
 
 abbrev μ-loop : tie.MeasureT-loop
-μ-loop store₀ glyphs₀ homes₀ classes₀ file limits plan now₀ done₀ most store glyphs homes classes now done = most - done
+μ-loop store₀ book₀ limits plan now₀ done₀ most store book now done = most - done
 
 pub pages-spec : {M : Type 1} → statement M
 pages-spec =
@@ -22,10 +22,6 @@ pages-spec =
     (λ c. search needs)
     (λ c κs. search needs)
     (λ c κs. search needs)
-    (λ c. search needs)
-    (λ c. search needs)
-    (λ c. search needs)
-    (λ c. search needs)
     (λ c. search needs)
     (λ c. search needs)
     (λ c. search needs)

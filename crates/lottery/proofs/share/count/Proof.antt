@@ -7,10 +7,10 @@ use Rattle.lottery.proofs.share.count.Statement.{statement}
 use Rattle.lottery.proofs.share.count.Tie as tie
 
 abbrev Inv-loop : tie.InvT-loop
-Inv-loop classes₀ size held class₀ classes class = (class ≤ 6) × (length classes ≡ length classes₀)
+Inv-loop book₀ size held class₀ book class = (class ≤ 6) × (length book ≡ length book₀)
 
 abbrev μ-loop : tie.MeasureT-loop
-μ-loop classes₀ size held class₀ classes class = 6 - class
+μ-loop book₀ size held class₀ book class = 6 - class
 
 pub count-spec : {M : Type 1} → statement M
 count-spec =
@@ -21,6 +21,7 @@ count-spec =
     (λ c κs. search needs)
     (λ c. search needs)
     (λ c κs. search needs)
+    (λ c. search needs)
     (λ c. search needs)
     (λ c κs. search needs)
     (λ c κs. search needs)
