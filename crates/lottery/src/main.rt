@@ -41,15 +41,18 @@ fn every(settings: Settings) -> u64 {
 // What is printed at the end.
 fn conclude(store: &[u64], book: &[u64], ended: Run, limits: Limits, is_csv: bool) {
     let cache = ended.cache;
+    let seen = ended.seen;
     if is_csv {
-        report::shares_csv(book);
+        report::shares(book, cache.draws, true);
+        report::seen_csv(seen);
         return;
     }
-    report::checks(store, book, cache, limits);
-    let seen = ended.seen;
+    report::bytes(cache, limits);
+    report::weights(store, book, cache);
+    report::verdicts(store, cache);
     report::seen(seen);
-    report::remarks(seen, limits);
-    report::shares(book, cache.draws);
+    report::shares(book, cache.draws, false);
+    report::remark(limits);
 }
 
 // The run, in lent memory, from an empty heap to the report.

@@ -4,13 +4,17 @@ use crate::cache::Limits;
 use crate::check;
 use crate::check::Seen;
 use crate::share;
-use crate::share::CLASSES;
 use crate::sums::minus;
 use crate::sums::plus;
 use crate::text::column;
-use crate::text::hundredths;
 use crate::text::say;
 use crate::text::show;
+
+fn line(label: &[u8], number: u64) {
+    say(label);
+    column(number);
+    say(b"\n");
+}
 
 // A number of a row behind its first.
 fn item(number: u64, is_csv: bool) {
@@ -27,17 +31,21 @@ pub fn head(limits: Limits, is_csv: bool) {
         say(b"page,slots,held,weight,given,freed,draws,empty,words\n");
         return;
     }
-    say(b"heap ");
-    show(limits.heap);
-    say(b" bytes, at most ");
-    show(limits.slots);
+    line(
+        b"heap, bytes                                      ",
+        limits.heap,
+    );
+    line(
+        b"slots, at most                                   ",
+        limits.slots,
+    );
     if limits.is_faulty {
-        say(b" slots, with the old build's pop\n\n");
-    } else {
-        say(b" slots\n\n");
+        say(b"the last slot is popped as the old build did\n");
     }
     say(
-        b"      page     slots      held    weight     given     freed     draws     empty     words\n",
+        b"
+      page     slots      held    weight     given     freed     draws     empty     words
+",
     );
 }
 
@@ -59,102 +67,8 @@ pub fn row(page: u64, before: Cache, after: Cache, weight: u64, is_csv: bool) {
     say(b"\n");
 }
 
-fn line(label: &[u8], number: u64) {
-    say(label);
-    column(number);
-    say(b"\n");
-}
-
-fn verdict(label: &[u8], is_so: bool) {
-    say(label);
-    if is_so {
-        say(b"       yes\n");
-    } else {
-        say(b"        NO\n");
-    }
-}
-
-// A page, or never.
-fn first(label: &[u8], page: u64) {
-    say(label);
-    if page == 0 {
-        say(b"     never\n");
-    } else {
-        column(page);
-        say(b"\n");
-    }
-}
-
-fn name(class: usize) {
-    match class {
-        0 => say(b"0, in flash     "),
-        1 => say(b"2048 to 4095    "),
-        2 => say(b"4096 to 8191    "),
-        3 => say(b"8192 to 16383   "),
-        4 => say(b"16384 to 32767  "),
-        _ => say(b"32768 to 65535  "),
-    }
-}
-
-// A share of a whole in hundredths of a percent, rounded.
-fn percent(some: u64, all: u64) {
-    let part = share::part(some, all);
-    if share::WHOLE < part {
-        return;
-    }
-    hundredths((part * 10000 + share::WHOLE / 2) / share::WHOLE);
-}
-
-// What so many draws are promised together.
-fn promise_of(draws: u64) -> u64 {
-    if 17592186044415 < draws {
-        return 0;
-    }
-    draws * share::WHOLE
-}
-
-fn class_row(book: &[u64], class: usize, draws: u64) {
-    let drawn = share::drawn(book, class);
-    let promised = share::promised(book, class);
-    name(class);
-    column(drawn);
-    column(plus(promised, share::WHOLE / 2) / share::WHOLE);
-    say(b"  ");
-    percent(drawn, draws);
-    say(b"    ");
-    percent(promised, promise_of(draws));
-    say(b"\n");
-}
-
-// A line for each class of weight.
-pub fn shares(book: &[u64], draws: u64) {
-    say(b"\nbytes of bitmap      drawn  promised    drawn %  promised %\n");
-    let mut class = 0;
-    while class < CLASSES {
-        class_row(book, class, draws);
-        class = class + 1;
-    }
-}
-
-fn class_csv(book: &[u64], class: usize) {
-    show(class as u64);
-    item(share::drawn(book, class), true);
-    item(share::promised(book, class), true);
-    say(b"\n");
-}
-
-// The same with commas: what is promised stands in parts of 1,048,576 of a draw.
-pub fn shares_csv(book: &[u64]) {
-    say(b"\nclass,drawn,promised\n");
-    let mut class = 0;
-    while class < CLASSES {
-        class_csv(book, class);
-        class = class + 1;
-    }
-}
-
 // What became of the bytes.
-fn bytes(cache: Cache, limits: Limits) {
+pub fn bytes(cache: Cache, limits: Limits) {
     line(
         b"\nbytes given out                                  ",
         cache.given,
@@ -175,7 +89,9 @@ fn bytes(cache: Cache, limits: Limits) {
 }
 
 // What the tree says.
-fn weights(store: &[u64], book: &[u64], cache: Cache, weight: u64) {
+pub fn weights(store: &[u64], book: &[u64], cache: Cache) {
+    let count = cache.count;
+    let weight = check::total(store, count);
     line(b"weight of all slots                              ", weight);
     line(
         b"weight that belongs to no bitmap                 ",
@@ -189,21 +105,28 @@ fn weights(store: &[u64], book: &[u64], cache: Cache, weight: u64) {
         b"calls of the tree that were refused              ",
         cache.refused,
     );
-    let wrong = check::wrong_slots(store, book, cache.count);
+    let wrong = check::wrong_slots(store, book, count);
     line(b"slots whose weight is not their bitmap's bytes   ", wrong);
 }
 
-// Whether the tree says the same as the bitmaps.
-pub fn checks(store: &[u64], book: &[u64], cache: Cache, limits: Limits) {
+fn verdict(label: &[u8], is_so: bool) {
+    say(label);
+    if is_so {
+        say(b"       yes\n");
+    } else {
+        say(b"        NO\n");
+    }
+}
+
+// Whether no byte is lost, and the tree says the same as the bitmaps.
+pub fn verdicts(store: &[u64], cache: Cache) {
     let count = cache.count;
-    let weight = check::total(store, count);
     let known = plus(cache.freed, cache.held);
-    bytes(cache, limits);
-    weights(store, book, cache, weight);
     verdict(
         b"every byte given out was freed or is held        ",
         cache.given == known,
     );
+    let weight = check::total(store, count);
     verdict(
         b"the weight of all slots is the bytes held        ",
         weight == cache.held,
@@ -212,6 +135,16 @@ pub fn checks(store: &[u64], book: &[u64], cache: Cache, limits: Limits) {
         b"is_sound, the whole-store check, says yes        ",
         check::is_sound(store, count),
     );
+}
+
+// A page, or never.
+fn first(label: &[u8], page: u64) {
+    if page == 0 {
+        say(label);
+        say(b"     never\n");
+    } else {
+        line(label, page);
+    }
 }
 
 // When something went wrong.
@@ -245,16 +178,93 @@ pub fn seen(seen: Seen) {
         b"pages that could not be shown                    ",
         seen.pages_unshown,
     );
-}
-
-// What a reader may wonder about.
-pub fn remarks(seen: Seen, limits: Limits) {
     if seen.is_out_of_words {
         say(b"the file has no words for a page more\n");
     }
+}
+
+// The same with commas.
+pub fn seen_csv(seen: Seen) {
+    say(b"\ntotal,slot,empty,unsound,unshown,pages_unshown\n");
+    show(seen.total);
+    item(seen.slot, true);
+    item(seen.empty, true);
+    item(seen.unsound, true);
+    item(seen.unshown, true);
+    item(seen.pages_unshown, true);
+    say(b"\n");
+}
+
+// Why is_sound says yes to the old fault.
+pub fn remark(limits: Limits) {
     if limits.is_faulty {
         say(
-            b"\nWeight that is left behind makes a cell larger than its children, never smaller: is_sound can't see it.\n",
+            b"
+The weight that the old pop leaves in the grandparents makes a cell larger than its children together, never smaller.
+So is_sound can't see it. What does is the comparison with the bytes of the bitmaps.
+",
         );
+    }
+}
+
+// Parts of 1,048,576 in percent, with two digits behind the point.
+fn percent(part: u64) {
+    if share::WHOLE < part {
+        return;
+    }
+    let hundredths = (part * 10000 + share::WHOLE / 2) / share::WHOLE;
+    column(hundredths / 100);
+    say(b".");
+    show(hundredths / 10 % 10);
+    show(hundredths % 10);
+}
+
+// The smallest bitmap of a class.
+fn least_of(class: usize) -> u64 {
+    match class {
+        0 => 0,
+        1 => 2048,
+        2 => 4096,
+        3 => 8192,
+        4 => 16384,
+        _ => 32768,
+    }
+}
+
+// With commas what is promised stands in parts of 1,048,576 of a draw.
+fn class_row(book: &[u64], class: usize, draws: u64, is_csv: bool) {
+    let drawn = share::drawn(book, class);
+    let promised = share::promised(book, class);
+    if is_csv {
+        show(least_of(class));
+        item(drawn, true);
+        item(promised, true);
+        say(b"\n");
+        return;
+    }
+    column(least_of(class));
+    column(drawn);
+    column(plus(promised, share::WHOLE / 2) / share::WHOLE);
+    percent(share::part(drawn, draws));
+    percent(if draws == 0 { 0 } else { promised / draws });
+    say(b"\n");
+}
+
+// A line for each class of weight.
+pub fn shares(book: &[u64], draws: u64, is_csv: bool) {
+    if is_csv {
+        say(b"\nleast,drawn,promised\n");
+    } else {
+        say(
+            b"
+slots by the bytes of their bitmap, 0 for the glyphs in flash
+bytes from     drawn  promised      drawn %   promised %
+",
+        );
+    }
+    let mut class = 0;
+    while class < share::CLASSES {
+        class_row(book, class, draws, is_csv);
+        class = class + 1;
     }
 }

@@ -63,17 +63,12 @@ fn look(store: &[u64], book: &[u64], run: Run) -> Run {
     }
 }
 
-// Whether a row is due after so many pages.
-fn is_due(page: u64, every: u64) -> bool {
-    if every == 0 {
-        return false;
-    }
-    page % every == 0
-}
-
 // A row where one is due.
 fn tell(store: &[u64], before: Run, after: Run, page: u64, plan: Plan) {
-    if is_due(page, plan.every) {
+    if plan.every == 0 {
+        return;
+    }
+    if page % plan.every == 0 {
         let was = before.cache;
         let cache = after.cache;
         report::row(

@@ -22,22 +22,6 @@ pub fn column(number: u64) {
     io::write_all(STDOUT_FILENO, &digits[..count]);
 }
 
-// Hundredths with two digits behind the point, at the right of a column.
-pub fn hundredths(number: u64) {
-    let whole = number / 100;
-    if whole < 10 {
-        say(b"      ");
-    } else if whole < 100 {
-        say(b"     ");
-    } else {
-        say(b"    ");
-    }
-    show(whole);
-    say(b".");
-    show(number / 10 % 10);
-    show(number % 10);
-}
-
 // Whether two texts are the same.
 pub fn same(a: &[u8], b: &[u8]) -> bool {
     if a.len() != b.len() {
