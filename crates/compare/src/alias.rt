@@ -21,7 +21,7 @@ fn number_below(pool: &[u64], total: u64) -> Numbers {
 }
 
 // The answer of a call, over a copy of the cells that it may change and of its links.
-pub fn answer(call: u64, words: &[u64], cells: &mut [u64], links: &mut [u32]) -> Numbers {
+pub(crate) fn answer(call: u64, words: &[u64], cells: &mut [u64], links: &mut [u32]) -> Numbers {
     let first = record::numbers(words, record::LENT);
     let sum = record::number(words, 0);
     match call {

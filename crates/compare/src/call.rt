@@ -74,7 +74,12 @@ fn compare(
 }
 
 // Runs the call of a record over copies of what it may change, and leaves what the port answered in `got`.
-pub fn run(words: &[u64], room: &mut [u64], spare: &mut [u32], got: &mut [u64; 8]) -> Verdict {
+pub(crate) fn run(
+    words: &[u64],
+    room: &mut [u64],
+    spare: &mut [u32],
+    got: &mut [u64; 8],
+) -> Verdict {
     if !record::whole(words) {
         return Verdict::Malformed;
     }

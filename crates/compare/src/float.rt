@@ -113,7 +113,7 @@ fn same(expected: &[u64], got: &[u64; 8], told: usize) -> bool {
 }
 
 // Runs the call and compares; none of these changes what it is lent.
-pub fn run(call: u64, words: &[u64], got: &mut [u64; 8]) -> Verdict {
+pub(crate) fn run(call: u64, words: &[u64], got: &mut [u64; 8]) -> Verdict {
     let told = answer(call, words, got);
     if told == 0 {
         return Verdict::Malformed;

@@ -9,7 +9,7 @@ pub enum Next {
 }
 
 // Reads a record into the words, and says how many it has.
-pub fn read_record(bytes: &mut [u8], words: &mut [u64]) -> Next {
+pub(crate) fn read_record(bytes: &mut [u8], words: &mut [u64]) -> Next {
     let mut header = [0u8; 8];
     let got = io::read_full(STDIN_FILENO, &mut header);
     if got == 0 {

@@ -1,7 +1,7 @@
 // Links of a table, which a record holds as numbers like all others.
 
 // Copies numbers to the front of the links: whether there is room and each is a u32.
-pub fn fill(links: &mut [u32], numbers: &[u64]) -> bool {
+pub(crate) fn fill(links: &mut [u32], numbers: &[u64]) -> bool {
     if links.len() < numbers.len() {
         return false;
     }
@@ -21,7 +21,7 @@ pub fn fill(links: &mut [u32], numbers: &[u64]) -> bool {
 }
 
 // Whether links are the numbers of a list.
-pub fn same(links: &[u32], numbers: &[u64]) -> bool {
+pub(crate) fn same(links: &[u32], numbers: &[u64]) -> bool {
     if links.len() != numbers.len() {
         return false;
     }

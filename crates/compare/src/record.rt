@@ -24,7 +24,7 @@ pub const ANSWER: usize = 5;
 
 pub const AFTER: usize = 6;
 
-pub fn call(words: &[u64]) -> u64 {
+pub(crate) fn call(words: &[u64]) -> u64 {
     if 0 < words.len() { words[0] } else { 0 }
 }
 
@@ -44,7 +44,7 @@ fn part_at(words: &[u64], at: usize) -> Part
 }
 
 // The list of a number: 0 the numbers handed in, 1 to 4 what was lent, 5 the answer, 6 and 7 what was left.
-pub fn list(words: &[u64], which: usize) -> Part
+pub(crate) fn list(words: &[u64], which: usize) -> Part
     ensures { λ r. ⌜ Within (length (now (words .entry))) r ⌝ }
 {
     let mut at = 2;
@@ -64,7 +64,7 @@ pub fn list(words: &[u64], which: usize) -> Part
 }
 
 // Whether the eight lists are all there, and nothing behind them.
-pub fn whole(words: &[u64]) -> bool {
+pub(crate) fn whole(words: &[u64]) -> bool {
     match list(words, 7) {
         Part::Of(_, to) => to == words.len(),
         Part::Missing => false,
@@ -72,7 +72,7 @@ pub fn whole(words: &[u64]) -> bool {
 }
 
 // The numbers of a list, and none where it is missing.
-pub fn numbers(words: &[u64], which: usize) -> &[u64] {
+pub(crate) fn numbers(words: &[u64], which: usize) -> &[u64] {
     match list(words, which) {
         Part::Of(from, to) => &words[from..to],
         Part::Missing => &words[0..0],
@@ -80,7 +80,7 @@ pub fn numbers(words: &[u64], which: usize) -> &[u64] {
 }
 
 // A number handed in, and 0 where the record has none.
-pub fn number(words: &[u64], which: usize) -> u64 {
+pub(crate) fn number(words: &[u64], which: usize) -> u64 {
     let handed = numbers(words, NUMBERS);
     if which < handed.len() {
         handed[which]
@@ -90,7 +90,7 @@ pub fn number(words: &[u64], which: usize) -> u64 {
 }
 
 // Whether two lists of numbers are the same.
-pub fn same(a: &[u64], b: &[u64]) -> bool {
+pub(crate) fn same(a: &[u64], b: &[u64]) -> bool {
     if a.len() != b.len() {
         return false;
     }
@@ -105,7 +105,7 @@ pub fn same(a: &[u64], b: &[u64]) -> bool {
 }
 
 // Copies numbers to the front of the room, as far as it goes.
-pub fn fill(room: &mut [u64], numbers: &[u64]) {
+pub(crate) fn fill(room: &mut [u64], numbers: &[u64]) {
     let mut i = 0;
     while i < numbers.len() {
         if room.len() <= i {

@@ -50,7 +50,7 @@ fn at_place(place: u64) {
 }
 
 // A record that can't be replayed: the first cell of the tally says that the run stopped.
-pub fn stopped(tally: &mut [u64], place: u64, why: &[u8]) {
+pub(crate) fn stopped(tally: &mut [u64], place: u64, why: &[u8]) {
     count(tally, 0);
     at_place(place);
     say(why);
@@ -78,7 +78,7 @@ fn differs(words: &[u64], got: &[u64; 8], tally: &mut [u64], place: u64) {
 }
 
 // Says what came of a record, and whether to go on.
-pub fn judged(
+pub(crate) fn judged(
     verdict: Verdict,
     words: &[u64],
     got: &[u64; 8],
@@ -107,7 +107,7 @@ pub fn judged(
 }
 
 // A line for each call, and the verdict.
-pub fn summary(tally: &[u64]) {
+pub(crate) fn summary(tally: &[u64]) {
     let mut all: u64 = 0;
     let mut call = 1;
     while call < tally.len() {

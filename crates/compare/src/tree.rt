@@ -18,7 +18,7 @@ fn read(call: u64, words: &[u64], count: usize) -> Numbers {
 }
 
 // The answer of a call, over a copy of the store where it may change that.
-pub fn answer(call: u64, words: &[u64], store: &mut [u64]) -> Numbers {
+pub(crate) fn answer(call: u64, words: &[u64], store: &mut [u64]) -> Numbers {
     let count = record::number(words, 0) as usize;
     let first = record::number(words, 1);
     let second = record::number(words, 2);
