@@ -73,12 +73,14 @@ impl Cache {
         (self.count as u64) < limits.slots
     }
 
-    // Whether draws are to make room: more than three quarters of the heap or of the slots are in use.
+    // Whether draws are to make room: more than three quarters of the heap, or of the slots past the glyphs in
+    // flash, are in use.
     fn is_crowded(self, limits: Limits) -> bool {
         if limits.heap - limits.heap / 4 < self.held {
             return true;
         }
-        limits.slots - limits.slots / 4 < self.count as u64
+        let spare = minus(limits.slots, glyph::IN_FLASH) / 4;
+        minus(limits.slots, spare) < self.count as u64
     }
 }
 

@@ -167,7 +167,7 @@ pub fn seen(seen: Seen) {
         seen.unsound,
     );
     first(
-        b"  the heap has no room for the page's glyphs     ",
+        b"  there is no room for all glyphs of a page      ",
         seen.unshown,
     );
     line(
