@@ -1,8 +1,13 @@
 // The glyph cache of a sign over page loads: glyphs come and go, the heap is bounded, and eviction is by lottery.
 //
 // A slot's weight is the bytes of its bitmap. A page loads the glyphs that it wants and the cache lacks; then, while
-// more than three quarters of the heap are in use, slots are drawn from the tree with the page's words, their bitmaps
-// are freed, and the last slot's glyph moves into each. With --fault the last slot is popped as an old build did.
+// more than three quarters of the heap are in use, slots are drawn from the tree with the page's 64 words, their bitmaps
+// are freed, and the last slot's glyph moves into each. The first slots are those of the sign's own glyphs, whose
+// bitmaps lie in flash: they hold no byte of the heap, so their weight is 0, and no word draws them.
+//
+// With --fault the last slot is popped as an old build did. The weight that this leaves behind ends up in slots a quarter
+// of the way into the tree, among those of the glyphs in flash. Draws that fall there free nothing, and since such a slot
+// is never given another weight, what is left there stays.
 mod arguments;
 mod book;
 mod cache;
