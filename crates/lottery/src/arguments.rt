@@ -180,7 +180,7 @@ fn width(flag: Flag) -> usize
     }
 }
 
-pub fn read() -> Settings {
+pub(crate) fn read() -> Settings {
     let count = os::arg_count();
     let mut settings = Settings::new();
     if MOST_ARGUMENTS < count {
@@ -196,7 +196,7 @@ pub fn read() -> Settings {
     settings
 }
 
-pub fn usage(out: i32) {
+pub(crate) fn usage(out: i32) {
     io::write_all(
         out,
         b"usage: lottery [--pages N] [--heap BYTES] [--slots N] [--words FILE] [--fault] [--csv]
@@ -215,7 +215,7 @@ Loads pages of glyphs into a bounded heap, and evicts glyphs by lottery.
 }
 
 // Says that the arguments are none of these.
-pub fn complain() {
+pub(crate) fn complain() {
     io::write_all(
         STDERR_FILENO,
         b"lottery: an argument is unknown, lacks its value or is out of its range\n",

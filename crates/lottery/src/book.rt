@@ -16,27 +16,27 @@ fn home(glyph: u64) -> usize {
     HOMES + (glyph % glyph::GLYPHS) as usize
 }
 
-pub fn glyph_in(book: &[u64], slot: usize) -> u64 {
+pub(crate) fn glyph_in(book: &[u64], slot: usize) -> u64 {
     cell(book, slot % HOMES)
 }
 
-pub fn has(book: &[u64], glyph: u64) -> bool {
+pub(crate) fn has(book: &[u64], glyph: u64) -> bool {
     cell(book, home(glyph)) != 0
 }
 
 // Puts a glyph into a slot.
-pub fn enter(book: &mut [u64], slot: usize, glyph: u64) {
+pub(crate) fn enter(book: &mut [u64], slot: usize, glyph: u64) {
     put(book, slot % HOMES, glyph);
     put(book, home(glyph), (slot % HOMES) as u64 + 1);
 }
 
 // Forgets where a glyph was.
-pub fn forget(book: &mut [u64], glyph: u64) {
+pub(crate) fn forget(book: &mut [u64], glyph: u64) {
     put(book, home(glyph), 0);
 }
 
 // Enters the glyphs in flash, each in the slot of its own number.
-pub fn begin(book: &mut [u64]) {
+pub(crate) fn begin(book: &mut [u64]) {
     let mut i = 0;
     while i < glyph::IN_FLASH {
         enter(book, i as usize, i);

@@ -85,7 +85,7 @@ impl Cache {
 }
 
 // Begins with the glyphs in flash in the first slots, at weight 0.
-pub fn begin(store: &mut [u64], book: &mut [u64]) -> Cache {
+pub(crate) fn begin(store: &mut [u64], book: &mut [u64]) -> Cache {
     book::begin(book);
     let weights = [0u64; FLASH_SLOTS];
     let count = match weighted_tree::new(store, &weights) {
@@ -137,7 +137,7 @@ pub struct Loaded {
 }
 
 // Loads what a page wants.
-pub fn load_page(
+pub(crate) fn load_page(
     store: &mut [u64],
     book: &mut [u64],
     cache: Cache,
@@ -243,7 +243,7 @@ fn place_after(at: usize, used: usize, end: usize) -> usize
 }
 
 // Draws and evicts until the cache is no longer crowded or the words of the pool end.
-pub fn sweep(
+pub(crate) fn sweep(
     store: &mut [u64],
     book: &mut [u64],
     pool: &[u64],

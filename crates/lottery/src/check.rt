@@ -27,7 +27,7 @@ fn first(before: u64, page: u64, is_seen: bool) -> u64 {
 }
 
 // The weight of all slots together.
-pub fn total(store: &[u64], count: usize) -> u64 {
+pub(crate) fn total(store: &[u64], count: usize) -> u64 {
     if count == 0 { 0 } else { cell(store, 0) }
 }
 
@@ -40,7 +40,7 @@ fn is_right(store: &[u64], count: usize, slot: usize, glyph: u64) -> bool {
 }
 
 // How many slots have a weight that is not their bitmap's size.
-pub fn wrong_slots(store: &[u64], book: &[u64], count: usize) -> u64 {
+pub(crate) fn wrong_slots(store: &[u64], book: &[u64], count: usize) -> u64 {
     let mut wrong: u64 = 0;
     let mut slot = 0;
     while slot < count {
@@ -53,7 +53,7 @@ pub fn wrong_slots(store: &[u64], book: &[u64], count: usize) -> u64 {
 }
 
 // The whole-store check: whether no cell is below its children's sum.
-pub fn is_sound(store: &[u64], count: usize) -> bool {
+pub(crate) fn is_sound(store: &[u64], count: usize) -> bool {
     match weighted_tree::is_sound(store, count) {
         Said::Yes => true,
         Said::No => false,
@@ -62,7 +62,7 @@ pub fn is_sound(store: &[u64], count: usize) -> bool {
 }
 
 impl Seen {
-    pub fn new() -> Seen {
+    pub(crate) fn new() -> Seen {
         Seen {
             total: 0,
             slot: 0,
@@ -76,7 +76,7 @@ impl Seen {
     }
 
     // After a page whose glyphs all found room, or did not.
-    pub fn page(mut self, is_shown: bool) -> Seen {
+    pub(crate) fn page(mut self, is_shown: bool) -> Seen {
         self.pages = crate::sums::plus(self.pages, 1);
         self.unshown = first(self.unshown, self.pages, !is_shown);
         if !is_shown {
@@ -86,7 +86,7 @@ impl Seen {
     }
 
     // After the checks of a page.
-    pub fn checked(mut self, store: &[u64], book: &[u64], cache: Cache) -> Seen {
+    pub(crate) fn checked(mut self, store: &[u64], book: &[u64], cache: Cache) -> Seen {
         let page = self.pages;
         let count = cache.count;
         self.total = first(self.total, page, total(store, count) != cache.held);
@@ -96,7 +96,7 @@ impl Seen {
         self
     }
 
-    pub fn words_ended(mut self) -> Seen {
+    pub(crate) fn words_ended(mut self) -> Seen {
         self.is_out_of_words = true;
         self
     }

@@ -4,7 +4,7 @@ use crate::sums::lower;
 use crate::sums::put;
 
 // Removes the last slot, takes its weight from its first parent, and leaves it in the grandparents.
-pub fn pop(store: &mut [u64], count: usize) -> usize {
+pub(crate) fn pop(store: &mut [u64], count: usize) -> usize {
     if count < 2 {
         put(store, 0, 0);
         return 0;

@@ -29,7 +29,7 @@ fn size_by(number: u64, rest: u64) -> u64 {
 }
 
 // The bytes of the heap that a glyph's bitmap takes.
-pub fn size_of(glyph: u64) -> u64 {
+pub(crate) fn size_of(glyph: u64) -> u64 {
     if glyph < IN_FLASH {
         return 0;
     }
@@ -37,7 +37,7 @@ pub fn size_of(glyph: u64) -> u64 {
     size_by(number % 16, number / 65536)
 }
 
-pub fn class_of(size: u64) -> usize
+pub(crate) fn class_of(size: u64) -> usize
     ensures { λ r. ⌜ r < 6 ⌝ }
 {
     if size < 2048 {
@@ -56,7 +56,7 @@ pub fn class_of(size: u64) -> usize
 }
 
 // The glyph that a page wants next: the smaller of two numbers, so that some glyphs are wanted more often.
-pub fn wanted(generator: Generator) -> u64 {
+pub(crate) fn wanted(generator: Generator) -> u64 {
     let word = generator.word();
     crate::sums::smaller((word >> 20) % GLYPHS, (word >> 40) % GLYPHS)
 }

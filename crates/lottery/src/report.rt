@@ -26,7 +26,7 @@ fn item(number: u64, is_csv: bool) {
     }
 }
 
-pub fn head(limits: Limits, is_csv: bool) {
+pub(crate) fn head(limits: Limits, is_csv: bool) {
     if is_csv {
         say(b"page,slots,held,weight,given,freed,draws,empty,words\n");
         return;
@@ -50,7 +50,7 @@ pub fn head(limits: Limits, is_csv: bool) {
 }
 
 // A page: what the cache has, and what it did since it was as before.
-pub fn row(page: u64, before: Cache, after: Cache, weight: u64, is_csv: bool) {
+pub(crate) fn row(page: u64, before: Cache, after: Cache, weight: u64, is_csv: bool) {
     if is_csv {
         show(page);
     } else {
@@ -68,7 +68,7 @@ pub fn row(page: u64, before: Cache, after: Cache, weight: u64, is_csv: bool) {
 }
 
 // What became of the bytes.
-pub fn bytes(cache: Cache, limits: Limits) {
+pub(crate) fn bytes(cache: Cache, limits: Limits) {
     line(
         b"\nbytes given out                                  ",
         cache.given,
@@ -89,7 +89,7 @@ pub fn bytes(cache: Cache, limits: Limits) {
 }
 
 // What the tree says.
-pub fn weights(store: &[u64], book: &[u64], cache: Cache) {
+pub(crate) fn weights(store: &[u64], book: &[u64], cache: Cache) {
     let count = cache.count;
     let weight = check::total(store, count);
     line(b"weight of all slots                              ", weight);
@@ -119,7 +119,7 @@ fn verdict(label: &[u8], is_so: bool) {
 }
 
 // Whether no byte is lost, and the tree says the same as the bitmaps.
-pub fn verdicts(store: &[u64], cache: Cache) {
+pub(crate) fn verdicts(store: &[u64], cache: Cache) {
     let count = cache.count;
     let known = plus(cache.freed, cache.held);
     verdict(
@@ -148,7 +148,7 @@ fn first(label: &[u8], page: u64) {
 }
 
 // When something went wrong.
-pub fn seen(seen: Seen) {
+pub(crate) fn seen(seen: Seen) {
     say(b"\nfirst page at which\n");
     first(
         b"  the weight of all slots is not the bytes held  ",
@@ -184,7 +184,7 @@ pub fn seen(seen: Seen) {
 }
 
 // The same with commas.
-pub fn seen_csv(seen: Seen) {
+pub(crate) fn seen_csv(seen: Seen) {
     say(b"\ntotal,slot,empty,unsound,unshown,pages_unshown\n");
     show(seen.total);
     item(seen.slot, true);
@@ -196,7 +196,7 @@ pub fn seen_csv(seen: Seen) {
 }
 
 // Why is_sound says yes to the old fault.
-pub fn remark(limits: Limits) {
+pub(crate) fn remark(limits: Limits) {
     if limits.is_faulty {
         say(
             b"
@@ -251,7 +251,7 @@ fn class_row(book: &[u64], class: usize, draws: u64, is_csv: bool) {
 }
 
 // A line for each class of weight.
-pub fn shares(book: &[u64], draws: u64, is_csv: bool) {
+pub(crate) fn shares(book: &[u64], draws: u64, is_csv: bool) {
     if is_csv {
         say(b"\nleast,drawn,promised\n");
     } else {

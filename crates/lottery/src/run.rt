@@ -122,7 +122,13 @@ impl Run {
 }
 
 // The pages of a run.
-pub fn pages(store: &mut [u64], book: &mut [u64], run: Run, limits: Limits, plan: Plan) -> Run {
+pub(crate) fn pages(
+    store: &mut [u64],
+    book: &mut [u64],
+    run: Run,
+    limits: Limits,
+    plan: Plan,
+) -> Run {
     let mut now = run;
     let mut done: u64 = 0;
     let most = plan.pages;

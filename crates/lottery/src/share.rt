@@ -18,16 +18,16 @@ const PROMISED: usize = DRAWN + CLASSES;
 // What a draw counts for.
 pub const WHOLE: u64 = 1048576;
 
-pub fn give(book: &mut [u64], size: u64) {
+pub(crate) fn give(book: &mut [u64], size: u64) {
     raise(book, book::CLASSES + class_of(size), size);
 }
 
-pub fn free(book: &mut [u64], size: u64) {
+pub(crate) fn free(book: &mut [u64], size: u64) {
     lower(book, book::CLASSES + class_of(size), size);
 }
 
 // A part of a whole, in parts of 1,048,576.
-pub fn part(some: u64, all: u64) -> u64 {
+pub(crate) fn part(some: u64, all: u64) -> u64 {
     if all == 0 {
         return 0;
     }
@@ -38,7 +38,7 @@ pub fn part(some: u64, all: u64) -> u64 {
 }
 
 // Counts a draw of a slot of this size while so many bytes are held.
-pub fn count(book: &mut [u64], size: u64, held: u64) {
+pub(crate) fn count(book: &mut [u64], size: u64, held: u64) {
     raise(book, DRAWN + class_of(size), 1);
     let mut class = 0;
     while class < CLASSES {
@@ -48,10 +48,10 @@ pub fn count(book: &mut [u64], size: u64, held: u64) {
     }
 }
 
-pub fn drawn(book: &[u64], class: usize) -> u64 {
+pub(crate) fn drawn(book: &[u64], class: usize) -> u64 {
     cell(book, DRAWN + class % CLASSES)
 }
 
-pub fn promised(book: &[u64], class: usize) -> u64 {
+pub(crate) fn promised(book: &[u64], class: usize) -> u64 {
     cell(book, PROMISED + class % CLASSES)
 }

@@ -12,28 +12,28 @@ pub struct Generator {
 }
 
 // One turn of the register. It is never 0 unless it was.
-pub fn shifted(register: u64) -> u64 {
+pub(crate) fn shifted(register: u64) -> u64 {
     let a = register ^ (register << 13);
     let b = a ^ (a >> 7);
     b ^ (b << 17)
 }
 
 impl Generator {
-    pub fn new(seed: u64) -> Generator {
+    pub(crate) fn new(seed: u64) -> Generator {
         Generator {
             register: shifted(shifted(seed)),
             counter: seed,
         }
     }
 
-    pub fn next(self) -> Generator {
+    pub(crate) fn next(self) -> Generator {
         Generator {
             register: shifted(self.register),
             counter: std::num::wrapping_add_u64(self.counter, 11400714819323198485),
         }
     }
 
-    pub fn word(self) -> u64 {
+    pub(crate) fn word(self) -> u64 {
         std::num::wrapping_add_u64(self.register, self.counter)
     }
 }
@@ -85,7 +85,7 @@ fn copied(pool: &mut [u64], file: i32, place: u64) -> bool {
 }
 
 impl Source {
-    pub fn new(is_file: bool, file: i32) -> Source {
+    pub(crate) fn new(is_file: bool, file: i32) -> Source {
         Source {
             is_file,
             file,
@@ -96,7 +96,7 @@ impl Source {
     }
 
     // Lends a page its words. A file that has fewer left is out.
-    pub fn lend(mut self, pool: &mut [u64]) -> Source {
+    pub(crate) fn lend(mut self, pool: &mut [u64]) -> Source {
         if self.is_file {
             let place = self.place;
             self.is_out = !copied(pool, self.file, place);
@@ -109,7 +109,7 @@ impl Source {
     }
 
     // After so many of the words that were lent are used.
-    pub fn used(mut self, words: u64) -> Source {
+    pub(crate) fn used(mut self, words: u64) -> Source {
         self.place = crate::sums::plus(self.place, words);
         self
     }

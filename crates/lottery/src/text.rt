@@ -1,18 +1,18 @@
 // Text: lines and numbers out, words and numbers of arguments in.
 use libc::STDOUT_FILENO;
 
-pub fn say(text: &[u8]) {
+pub(crate) fn say(text: &[u8]) {
     io::write_all(STDOUT_FILENO, text);
 }
 
-pub fn show(number: u64) {
+pub(crate) fn show(number: u64) {
     io::print_decimal(STDOUT_FILENO, number);
 }
 
 const SPACES: usize = 10;
 
 // A number at the right of a column.
-pub fn column(number: u64) {
+pub(crate) fn column(number: u64) {
     let mut digits = [0u8; 20];
     let count = io::decimal(number, &mut digits);
     if count < SPACES {
@@ -23,7 +23,7 @@ pub fn column(number: u64) {
 }
 
 // Whether two texts are the same.
-pub fn same(a: &[u8], b: &[u8]) -> bool {
+pub(crate) fn same(a: &[u8], b: &[u8]) -> bool {
     if a.len() != b.len() {
         return false;
     }
@@ -45,7 +45,7 @@ pub enum Read {
 
 const MOST_DIGITS: usize = 12;
 
-pub fn number(text: &[u8]) -> Read {
+pub(crate) fn number(text: &[u8]) -> Read {
     if text.len() == 0 {
         return Read::Bad;
     }
