@@ -4,10 +4,9 @@
 //! Two things are not the same on both sides and are said beside the figures: the Rust's `new` takes its memory from the
 //! heap, and the port's draws take their numbers from words by its rule, where the Rust is handed them.
 mod port;
+mod rust;
 
 use rand::Rng;
-use rand_distr::weighted::{WeightedAliasIndex, WeightedTreeIndex};
-use rand_distr::{Binomial, Distribution};
 use std::hint::black_box;
 use std::time::Instant;
 
@@ -52,8 +51,10 @@ impl Rng for Handed {
     }
 }
 
-fn handed(first: u64, second: u64) -> Handed {
-    Handed { word: 0, numbers: [first, second], at: 0 }
+impl Handed {
+    fn new(first: u64, second: u64) -> Handed {
+        Handed { word: 0, numbers: [first, second], at: 0 }
+    }
 }
 
 /// A pool of a round: its first word as it is, its second as a unit.
@@ -87,20 +88,20 @@ fn trees(chance: &mut Chance, n: usize) {
     let mut store = vec![0; n];
     let made = vec![(); 1 + INPUTS / n];
     let port = || each(&made, |_| port::tree_new(&mut store, &weights));
-    compare("tree `new`", &slots, made.len(), port, || each(&made, |_| WeightedTreeIndex::new(&weights).unwrap()));
+    compare("tree `new`", &slots, made.len(), port, || each(&made, |_| rust::tree_new(&weights)));
 
-    let mut tree = WeightedTreeIndex::new(&weights).unwrap();
+    let mut tree = rust::tree_new(&weights);
     let total: u64 = weights.iter().sum();
     let targets: Vec<u64> = (0..INPUTS).map(|_| chance.below(total)).collect();
     let indexes: Vec<usize> = (0..INPUTS).map(|_| chance.below(n as u64) as usize).collect();
     for &target in &targets {
-        assert_eq!(port::tree_walk(&store, target), tree.try_sample(&mut handed(target, 0)).unwrap() as u64);
+        assert_eq!(port::tree_walk(&store, target), rust::tree_walk(&tree, target) as u64);
     }
     let port = || each(&indexes, |&i| port::tree_get(&store, i));
-    compare("tree `get`", &slots, INPUTS, port, || each(&indexes, |&i| tree.get(i)));
+    compare("tree `get`", &slots, INPUTS, port, || each(&indexes, |&i| rust::tree_get(&tree, i)));
     let port = || each(&targets, |&target| port::tree_walk(&store, target));
     compare("tree `walk`", &slots, INPUTS, port, || {
-        each(&targets, |&target| tree.try_sample(&mut handed(target, 0)));
+        each(&targets, |&target| rust::tree_walk(&tree, target));
     });
     // another weight in every batch: the Rust is done at once where nothing changes
     let (mut batch, mut rust_batch) = (0, 0);
@@ -110,7 +111,7 @@ fn trees(chance: &mut Chance, n: usize) {
     };
     compare("tree `update`", &slots, INPUTS, port, || {
         rust_batch += 1;
-        each(&indexes, |&i| tree.update(i, weights[(i + rust_batch) % n]));
+        each(&indexes, |&i| rust::tree_update(&mut tree, i, weights[(i + rust_batch) % n]));
     });
     let port = || {
         each(&indexes, |&i| {
@@ -120,8 +121,8 @@ fn trees(chance: &mut Chance, n: usize) {
     };
     compare("tree `pop` and `push`", &slots, INPUTS, port, || {
         each(&indexes, |&i| {
-            tree.pop();
-            tree.push(weights[i])
+            rust::tree_pop(&mut tree);
+            rust::tree_push(&mut tree, weights[i]);
         });
     });
 }
@@ -132,22 +133,22 @@ fn tables(chance: &mut Chance, n: usize) {
     let (mut odds, mut links, mut output) = (vec![0; n], vec![0; n], vec![0; n]);
     let made = vec![(); 1 + INPUTS / n];
     let port = || each(&made, |_| port::alias_new(&weights, &mut odds, &mut links));
-    compare("alias `new`", &slots, made.len(), port, || each(&made, |_| WeightedAliasIndex::new(weights.clone())));
+    compare("alias `new`", &slots, made.len(), port, || each(&made, |_| rust::alias_new(&weights)));
 
-    let table = WeightedAliasIndex::new(weights.clone()).unwrap();
+    let table = rust::alias_new(&weights);
     let sum: u64 = weights.iter().sum();
     let port = || each(&made, |_| port::alias_weights(&odds, &links, sum, &mut output));
-    compare("alias `weights`", &slots, made.len(), port, || each(&made, |_| table.weights()));
+    compare("alias `weights`", &slots, made.len(), port, || each(&made, |_| rust::alias_weights(&table)));
     assert_eq!(output, table.weights());
 
     let pairs: Vec<[u64; 2]> = (0..INPUTS).map(|_| [chance.below(n as u64), chance.below(sum)]).collect();
     for &[slot, number] in &pairs {
-        let drawn = table.sample(&mut handed(slot, number)) as u64;
+        let drawn = rust::alias_draw(&table, slot, number) as u64;
         assert_eq!(port::alias_draw(&odds, &links, sum, &[slot, number]), drawn);
     }
     let port = || each(&pairs, |pair| port::alias_draw(&odds, &links, sum, pair));
     compare("alias `draw`", &slots, INPUTS, port, || {
-        each(&pairs, |&[slot, number]| table.sample(&mut handed(slot, number)));
+        each(&pairs, |&[slot, number]| rust::alias_draw(&table, slot, number));
     });
 }
 
@@ -155,22 +156,19 @@ fn counts(chance: &mut Chance, n: u64, p: f64) {
     let trials = format!("n = {n}, p = {p}");
     let made = vec![n; INPUTS];
     let port = || each(&made, |&n| port::binomial_new(n, p));
-    compare("binomial `new`", &trials, INPUTS, port, || each(&made, |&n| Binomial::new(n, p).unwrap()));
+    compare("binomial `new`", &trials, INPUTS, port, || each(&made, |&n| rust::binomial_new(n, p)));
 
-    let (setup, binomial) = (port::binomial_new(n, p), Binomial::new(n, p).unwrap());
+    let (setup, binomial) = (port::binomial_new(n, p), rust::binomial_new(n, p));
     let pools: Vec<[u64; 1]> = (0..INPUTS).map(|_| [chance.word()]).collect();
     let port = || each(&pools, |pool| port::binomial_draw(&setup, pool));
-    compare("binomial `draw`", &trials, INPUTS, port, || each(&pools, |pool| binomial.sample(&mut handed(pool[0], 0))));
+    compare("binomial `draw`", &trials, INPUTS, port, || each(&pools, |pool| rust::binomial_draw(&binomial, pool[0])));
 }
 
 fn rounds(chance: &mut Chance) {
     let (x, f) = (&ziggurat_tables::ZIG_NORM_X, &ziggurat_tables::ZIG_NORM_F);
     let pools: Vec<[u64; 2]> = (0..INPUTS).map(|_| [chance.word(), chance.word()]).collect();
     let port = || each(&pools, |pool| port::ziggurat_round(x, f, pool));
-    // a density above every height ends the round at the wedge
-    compare("ziggurat `round`", "normal", INPUTS, port, || {
-        each(&pools, |pool| utils::ziggurat(&mut word_first(pool), true, x, f, |_| f64::INFINITY, |_, u| u));
-    });
+    compare("ziggurat `round`", "normal", INPUTS, port, || each(&pools, |pool| rust::ziggurat_round(x, f, pool)));
 }
 
 fn main() {
