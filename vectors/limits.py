@@ -179,12 +179,16 @@ changes('push', 'the 4,096th slot, lent longer', ones(4095) + [9, 9], [4095, 1],
 changes('push', 'a 4,097th slot', full + [9], [4096, 1], no(10), full + [9])
 changes('push', 'a count of 4,097', full + [9], [4097, 1], no(7), full + [9])
 changes('pop', 'the 4,096th slot', full + [9], [4096], yes(1, 4095), ones(4095) + [0, 9])
+changes('pop', 'a count of 4,097', full + [9], [4097], no(7), full + [9])
 changes('update', 'the 4,096th slot', full, [4096, 4095, 0], yes(4096), ones(4095) + [0])
+changes('update', 'a count of 4,097', full + [9], [4097, 0, 1], no(7), full + [9])
 reads('walk', full + [9], ('the first target of 4,096 slots', [4096, 0], yes(4095)), ('the last', [4096, 4095], yes(0)),
       ('a count of 4,097', [4097, 0], no(7)))
 reads('get', full + [9], ('slot 4,095', [4096, 4095], yes(1)), ('a count of 4,097', [4097, 4095], no(7)))
 reads('is_sound', full + [9], ('4,096 slots', [4096], yes(1)), ('a count of 4,097', [4097], no(7)))
-reads('is_valid', full + [9], ('a count of 4,097', [4097], no(7)))
+reads('is_valid', full + [9], ('4,096 slots', [4096], yes(1)), ('a count of 4,097', [4097], no(7)))
+draws(full + [9], 4096, ('the first target of 4,096 slots', [0], yes(4095, 1)))
+draws(full + [9], 4097, ('a count of 4,097', [0], no(7)))
 
 
 # ---- a number from words: the first accepted word modulo T, and its place
@@ -325,7 +329,7 @@ unchecked('14 before 2', [HALF, 0], [2, 4], [1, END], [7], 14)
 run_down = [END] + list(range(4095))
 built('4,096 slots', [1] * 4096, 4096, [4096] * 4096, run_down)
 alias_draws([4096] * 4096, run_down, 4096, ('the 4,096th slot', [4095, 5], yes(4095, 2)), ('a slot modulo', [4096, 4095], yes(0, 2)))
-more, one_more = [1] * 4097, [END] + list(range(4096))
+more, one_more = [1] * 4097, [0] * 4097
 unbuilt('4,097 slots', more, more, one_more, 10)
 unbuilt('4,097 slots, 10 before 14', more, [7], [9], 10)
 alias_draws(more, one_more, 1, ('4,097 slots', [0, 0], no(10)))
@@ -576,7 +580,9 @@ def encoded(call, name, numbers, lent, answer, after):
     words = [CODES[call], 1]
     for numbers_of in [numbers] + lent + [[]] * (4 - len(lent)) + [answer] + after + [[]] * (2 - len(after)):
         words += [len(numbers_of)] + numbers_of
-    return struct.pack(f'>{len(words) + 1}Q', len(words), *words)
+    width = max(1, (max(words).bit_length() + 7) // 8)
+    header = bytes([width]) + (width * len(words)).to_bytes(3, 'big')
+    return header + b''.join(word.to_bytes(width, 'big') for word in words)
 
 
 if __name__ == '__main__':

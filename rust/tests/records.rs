@@ -12,12 +12,13 @@ struct Record {
 fn records() -> Vec<Record> {
     let path = concat!(env!("CARGO_MANIFEST_DIR"), "/../crates/compare/stdin");
     let bytes = std::fs::read(path).expect("the recorded calls");
-    let mut numbers = bytes
-        .chunks_exact(8)
-        .map(|b| u64::from_be_bytes(b.try_into().unwrap()));
+    let number = |bytes: &[u8]| bytes.iter().fold(0, |n, &byte| n << 8 | u64::from(byte));
+    let mut rest = bytes.as_slice();
     let mut records = Vec::new();
-    while let Some(size) = numbers.next() {
-        let mut whole = numbers.by_ref().take(size as usize);
+    while let [width, a, b, c, behind @ ..] = rest {
+        let (record, behind) = behind.split_at(number(&[*a, *b, *c]) as usize);
+        rest = behind;
+        let mut whole = record.chunks_exact((*width).into()).map(number);
         let call = whole.next().unwrap();
         whole.next().expect("the origin");
         let mut list = || {
@@ -27,6 +28,7 @@ fn records() -> Vec<Record> {
         let lists = (0..8).map(|_| list()).collect();
         records.push(Record { call, lists });
     }
+    assert!(rest.is_empty(), "the last record is cut off");
     records
 }
 

@@ -198,13 +198,14 @@ static void replay(const struct record *r, unsigned long at)
     checked++;
 }
 
-static bool read_number(FILE *file, uint64_t *n)
+/* A number of so many bytes, the highest first. */
+static bool read_number(FILE *file, size_t width, uint64_t *n)
 {
     unsigned char bytes[8];
-    if (fread(bytes, 1, 8, file) != 8)
+    if (width < 1 || 8 < width || fread(bytes, 1, width, file) != width)
         return false;
     *n = 0;
-    for (size_t i = 0; i < 8; i++)
+    for (size_t i = 0; i < width; i++)
         *n = *n << 8 | bytes[i];
     return true;
 }
@@ -213,11 +214,13 @@ static void replay_all(const char *path)
 {
     FILE *file = fopen(path, "rb");
     require(file != NULL, "the file of records", 0);
-    uint64_t size;
-    for (unsigned long at = 1; read_number(file, &size); at++) {
+    uint64_t width, bytes;
+    for (unsigned long at = 1; read_number(file, 1, &width); at++) {
+        require(read_number(file, 3, &bytes) && 0 < width && bytes % width == 0, "a record's head", at);
+        uint64_t size = bytes / width;
         uint64_t *numbers = room((size + 1) * sizeof(uint64_t));
         for (uint64_t i = 0; i < size; i++)
-            require(read_number(file, numbers + i), "a record's end", at);
+            require(read_number(file, width, numbers + i), "a record's end", at);
         struct record record = {.call = numbers[0]};
         uint64_t next = 2;
         for (size_t i = 0; i < LISTS; i++) {

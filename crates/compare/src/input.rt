@@ -1,4 +1,5 @@
-// Records from standard input: a length in words of eight bytes, and so many words, the highest byte first.
+// Records from standard input: how many bytes a number has, how many bytes follow, and the numbers, each with its highest
+// byte first.
 use libc::STDIN_FILENO;
 
 pub enum Next {
@@ -6,47 +7,61 @@ pub enum Next {
     End,
     CutOff,
     TooLong,
+    Malformed,
 }
 
 // Reads a record into the words, and says how many it has.
 pub(crate) fn read_record(bytes: &mut [u8], words: &mut [u64]) -> Next {
-    let mut header = [0u8; 8];
+    let mut header = [0u8; 4];
     let got = io::read_full(STDIN_FILENO, &mut header);
     if got == 0 {
         return Next::End;
     }
-    if got < 8 {
+    if got < 4 {
         return Next::CutOff;
     }
-    let length = big_endian::number(&header);
-    if (words.len() as u64) < length {
+    let width = big_endian::number(&header[0..1]);
+    let size = big_endian::number(&header[1..4]);
+    if width == 0 {
+        return Next::Malformed;
+    }
+    if 8 < width {
+        return Next::Malformed;
+    }
+    if size % width != 0 {
+        return Next::Malformed;
+    }
+    read_numbers(bytes, words, width as usize, size)
+}
+
+// Reads so many bytes of numbers of that width.
+fn read_numbers(bytes: &mut [u8], words: &mut [u64], width: usize, size: u64) -> Next {
+    if (bytes.len() as u64) < size {
         return Next::TooLong;
     }
-    let size = length as usize;
-    if bytes.len() / 8 < size {
-        return Next::TooLong;
-    }
-    let wanted = size * 8;
+    let wanted = size as usize;
     if io::read_full(STDIN_FILENO, &mut bytes[0..wanted]) < wanted {
         return Next::CutOff;
     }
-    decode(bytes, words, size);
-    Next::Record(size)
+    decode(&bytes[0..wanted], words, width)
 }
 
-// The first words of the bytes, as many as both have room for.
-fn decode(bytes: &[u8], words: &mut [u64], count: usize) {
+// The numbers that bytes spell, and how many there are; or that the words have no room for them.
+fn decode(bytes: &[u8], words: &mut [u64], width: usize) -> Next {
+    let mut from = 0;
     let mut i = 0;
-    while i < count {
-        if words.len() <= i {
-            return;
+    while i < words.len() {
+        if bytes.len() - from < width {
+            return Next::Record(i);
         }
-        if bytes.len() / 8 <= i {
-            return;
-        }
-        let from = i * 8;
-        let to = from + 8;
+        let to = from + width;
         words[i] = big_endian::number(&bytes[from..to]);
+        from = to;
         i = i + 1;
+    }
+    if from == bytes.len() {
+        Next::Record(i)
+    } else {
+        Next::TooLong
     }
 }

@@ -43,6 +43,10 @@ fn turn(
             report::stopped(tally, place, b"is longer than this program can hold");
             false
         }
+        Next::Malformed => {
+            report::stopped(tally, place, b"is malformed");
+            false
+        }
     }
 }
 

@@ -15,29 +15,35 @@ struct Asked {
     lent: Vec<Vec<u64>>,
 }
 
+const MALFORMED: &str = "is malformed";
+
 /// The call of a record and its eight lists.
-fn decoded(bytes: &[u8]) -> Result<(u64, Vec<Vec<u64>>), String> {
-    let mut words = bytes.chunks_exact(8).map(|word| u64::from_be_bytes(word.try_into().expect("eight bytes")));
-    let mut next = || words.next().ok_or_else(|| "is malformed".to_string());
+fn parted(numbers: &[u64]) -> Result<(u64, Vec<Vec<u64>>), String> {
+    let mut numbers = numbers.iter().copied();
+    let mut next = || numbers.next().ok_or(MALFORMED);
     let (code, _origin) = (next()?, next()?);
     let mut lists = Vec::new();
     for _ in 0..8 {
         let length = next()?;
-        lists.push((0..length).map(|_| next()).collect::<Result<Vec<u64>, String>>()?);
+        lists.push((0..length).map(|_| next()).collect::<Result<Vec<u64>, _>>()?);
     }
     Ok((code, lists))
 }
 
-fn asked(bytes: &[u8]) -> Result<Asked, String> {
-    let (code, mut lists) = decoded(bytes)?;
+fn asked(numbers: &[u64]) -> Result<Asked, String> {
+    let (code, mut lists) = parted(numbers)?;
     Ok(Asked { code, numbers: lists.remove(0), lent: lists })
 }
 
-/// The first record of a list, without its length, and what follows it.
-fn first(bytes: &[u8]) -> Option<(&[u8], &[u8])> {
-    let (head, behind) = bytes.split_first_chunk::<8>()?;
-    let size = usize::try_from(u64::from_be_bytes(*head)).ok()?.checked_mul(8)?;
-    behind.split_at_checked(size)
+/// The numbers of the next record of a stream.
+fn next(from: &mut impl Read) -> Result<Vec<u64>, String> {
+    let cut_off = |_| "is cut off".to_string();
+    let mut head = [0; 4];
+    from.read_exact(&mut head).map_err(cut_off)?;
+    let (width, size) = records::header(head);
+    let mut bytes = vec![0; size];
+    from.read_exact(&mut bytes).map_err(cut_off)?;
+    records::spelled(&bytes, width).ok_or(MALFORMED.into())
 }
 
 impl Asked {
@@ -118,30 +124,27 @@ pub fn judge(bytes: &[u8]) -> Result<[u64; 2], String> {
     let mut rust = 0;
     while !rest.is_empty() {
         let place = sink.written + 1;
-        let (record, behind) = first(rest).ok_or(format!("record {place} is cut off\n"))?;
-        let asked = asked(record).map_err(|why| format!("record {place} {why}\n"))?;
-        asked.ask(&mut sink).map_err(|why| format!("record {place} {why}\n"))?;
+        let told = |why| format!("record {place} {why}\n");
+        let record = next(&mut rest).map_err(told)?;
+        let asked = asked(&record).map_err(told)?;
+        asked.ask(&mut sink).map_err(told)?;
         // the origin, which is the second number, may be another
-        if sink.bytes()[8..16] != record[..8] || sink.bytes()[24..] != record[16..] {
+        if sink.numbers()[0] != record[0] || sink.numbers()[2..] != record[2..] {
             return Err(format!("record {place} ({}) differs: {:?}\n", records::NAMES[asked.code as usize], sink.last));
         }
         rust += u64::from(sink.last.origin == Origin::Rust);
-        rest = behind;
     }
     Ok([sink.written, rust])
 }
 
 /// The record at a place of a stream, counted from one, to be read.
 pub fn show(mut from: impl Read, place: u64) -> Result<String, String> {
+    let told = |why| format!("record {place} {why}\n");
     let mut record = Vec::new();
     for _ in 0..place {
-        let mut head = [0; 8];
-        from.read_exact(&mut head).map_err(|why| format!("the stream has fewer records: {why}\n"))?;
-        record.clear();
-        let size = u64::from_be_bytes(head).saturating_mul(8);
-        from.by_ref().take(size).read_to_end(&mut record).map_err(|why| format!("{why}\n"))?;
+        record = next(&mut from).map_err(told)?;
     }
-    let (code, lists) = decoded(&record).map_err(|why| format!("record {place} {why}\n"))?;
+    let (code, lists) = parted(&record).map_err(told)?;
     let named = ["numbers", "lent 1", "lent 2", "lent 3", "lent 4", "answer", "left 1", "left 2"].iter().zip(lists);
     let lines = named.filter(|(_, list)| !list.is_empty()).map(|(name, list)| format!("\n{name}: {list:?}"));
     Ok(format!("{}{}", records::NAMES.get(code as usize).unwrap_or(&"?"), lines.collect::<String>()))

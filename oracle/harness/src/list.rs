@@ -30,7 +30,7 @@ const REFUSALS: [&[usize]; 18] = [
 
 /// Random sessions of each part, as many as the size of the list allows.
 const SESSIONS: [(Part, usize); 4] =
-    [(Part::Tree, 180), (Part::Alias, 150), (Part::Binomial, 800), (Part::Ziggurat, 12)];
+    [(Part::Tree, 110), (Part::Alias, 90), (Part::Binomial, 480), (Part::Ziggurat, 8)];
 
 /// They have fewer slots than this.
 const SLOTS: usize = 8;
@@ -38,18 +38,19 @@ const SLOTS: usize = 8;
 const SEED: u64 = 6;
 
 /// The small cases: every target of up to 4 slots with weights 0 to 3, every pair and every change of up to 3 slots,
-/// and every pair of 4 slots with weights 0 to 2. The long run has what is left out here.
+/// and every pair and change of 4 slots with weights 0 to 2. The long run has what is left out here.
 fn small(sink: &mut Sink) {
     for slots in 0..=3 {
         exhaustive::trees(sink, slots, 3);
     }
+    exhaustive::trees(sink, 4, 2);
     exhaustive::walks(sink, 4, 3);
     for slots in 0..=3 {
         exhaustive::tables(sink, slots, 3);
     }
     exhaustive::tables(sink, 4, 2);
     exhaustive::stores(sink, 2, 3);
-    exhaustive::stores(sink, 3, 2);
+    exhaustive::stores(sink, 3, 3);
     exhaustive::strangers(sink, 1, 2);
     exhaustive::strangers(sink, 2, 1);
 }

@@ -96,8 +96,26 @@ fn size_of_answer(call: u64) -> usize {
     }
 }
 
-/// What a record may have behind its first number.
+/// The numbers that a record may have.
 const MOST_NUMBERS: usize = 32_768;
+
+/// How many bytes the largest of some numbers needs, one at least: the width of a record.
+fn width_of(numbers: &[u64]) -> usize {
+    let all = numbers.iter().fold(1, |all, number| all | number);
+    8 - all.leading_zeros() as usize / 8
+}
+
+/// What a record begins with: the bytes of each number, and how many bytes follow.
+pub fn header(bytes: [u8; 4]) -> (usize, usize) {
+    let [width, size @ ..] = bytes;
+    (width.into(), size.iter().fold(0, |size, byte| size << 8 | usize::from(*byte)))
+}
+
+/// The numbers that bytes spell, each of so many.
+pub fn spelled(bytes: &[u8], width: usize) -> Option<Vec<u64>> {
+    let number = |bytes: &[u8]| bytes.iter().fold(0, |number, byte| number << 8 | u64::from(*byte));
+    ((1..=8).contains(&width) && bytes.len() % width == 0).then(|| bytes.chunks(width).map(number).collect())
+}
 
 /// A call as it is recorded, without its answer.
 pub struct Call<'a> {
@@ -169,7 +187,7 @@ impl Sink {
             return;
         }
         self.numbers.clear();
-        self.numbers.extend([0, call.code, answer.origin as u64]);
+        self.numbers.extend([call.code, answer.origin as u64]);
         self.list(call.numbers);
         for i in 0..4 {
             self.list(call.lent.get(i).copied().unwrap_or_default());
@@ -180,10 +198,8 @@ impl Sink {
         for i in 0..2 {
             self.list(after.get(i).copied().unwrap_or_default());
         }
-        assert!(self.numbers.len() <= MOST_NUMBERS + 1, "compare can't hold this record");
-        self.numbers[0] = self.numbers.len() as u64 - 1;
-        self.bytes.clear();
-        self.bytes.extend(self.numbers.iter().flat_map(|number| number.to_be_bytes()));
+        assert!(self.numbers.len() <= MOST_NUMBERS, "compare can't hold this record");
+        self.encode();
         self.out.write_all(&self.bytes).unwrap_or_else(|why| gone(&why));
         self.written += 1;
         self.tally[call.code as usize][answer.refusal as usize][answer.origin as usize] += 1;
@@ -193,14 +209,24 @@ impl Sink {
         }
     }
 
+    fn encode(&mut self) {
+        let width = width_of(&self.numbers);
+        let header = width << 24 | width * self.numbers.len();
+        self.bytes.clear();
+        self.bytes.extend((header as u32).to_be_bytes());
+        for number in &self.numbers {
+            self.bytes.extend_from_slice(&number.to_be_bytes()[8 - width..]);
+        }
+    }
+
     fn list(&mut self, numbers: &[u64]) {
         self.numbers.push(numbers.len() as u64);
         self.numbers.extend_from_slice(numbers);
     }
 
-    /// The bytes of the last record.
-    pub fn bytes(&self) -> &[u8] {
-        &self.bytes
+    /// The numbers of the last record.
+    pub fn numbers(&self) -> &[u64] {
+        &self.numbers
     }
 
     /// How many records have the Rust's answers, and how many the rules', of one call.

@@ -1,5 +1,5 @@
--- `input::decode` is safe and ends: both lengths are tested at each word. Assumes nothing.
-use Prim.Native.Nat.{_-_}
+-- `input::decode` is safe and ends: both lengths are tested at each number. Assumes nothing.
+use Prim.Native.Nat.{_≤_, _-_}
 use mathlib.Core.Path.{_≡_}
 use borrow.Author.Needs.{needs}
 use lib.ListN.{length}
@@ -7,10 +7,10 @@ use Rattle.compare.proofs.input.decode.Statement.{statement}
 use Rattle.compare.proofs.input.decode.Tie as tie
 
 abbrev Inv-loop : tie.InvT-loop
-Inv-loop bytes words₀ count i₀ words i = length words ≡ length words₀
+Inv-loop bytes words₀ width from₀ i₀ words from i = (length words ≡ length words₀) × (i ≤ length words₀) × (from ≤ length bytes)
 
 abbrev μ-loop : tie.MeasureT-loop
-μ-loop bytes words₀ count i₀ words i = count - i
+μ-loop bytes words₀ width from₀ i₀ words from i = length words₀ - i
 
 pub decode-spec : {M : Type 1} → statement M
 decode-spec =
@@ -26,9 +26,9 @@ decode-spec =
     (λ c. search needs)
     (λ c. search needs)
     (λ c. search needs)
-    (λ c. search needs)
-    (λ c. search needs)
     (λ c κs. search needs)
+    (λ c. search needs)
+    (λ c. search needs)
     (λ c. search needs)
     (λ c. search needs)
     (λ c. search needs)
