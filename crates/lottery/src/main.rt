@@ -54,7 +54,7 @@ fn conclude(store: &[u64], book: &[u64], ended: Run, limits: Limits, is_csv: boo
     }
     report::bytes(cache, limits);
     report::weights(store, book, cache);
-    report::verdicts(store, cache);
+    report::verdicts(store, book, cache);
     report::seen(seen);
     report::shares(book, cache.draws, false);
     report::remark(limits);

@@ -118,13 +118,17 @@ fn verdict(label: &[u8], is_so: bool) {
     }
 }
 
-// Whether no byte is lost, and the tree says the same as the bitmaps.
-pub(crate) fn verdicts(store: &[u64], cache: Cache) {
+// Whether no byte is lost, no slot has lost its weight, and the tree says the same as the bitmaps.
+pub(crate) fn verdicts(store: &[u64], book: &[u64], cache: Cache) {
     let count = cache.count;
     let known = plus(cache.freed, cache.held);
     verdict(
         b"every byte given out was freed or is held        ",
         cache.given == known,
+    );
+    verdict(
+        b"each slot's weight is its bitmap's bytes         ",
+        check::wrong_slots(store, book, count) == 0,
     );
     let weight = check::total(store, count);
     verdict(
@@ -132,7 +136,7 @@ pub(crate) fn verdicts(store: &[u64], cache: Cache) {
         weight == cache.held,
     );
     verdict(
-        b"is_sound, the whole-store check, says yes        ",
+        b"is_sound, which sees the store alone, says yes   ",
         check::is_sound(store, count),
     );
 }
@@ -151,20 +155,24 @@ fn first(label: &[u8], page: u64) {
 pub(crate) fn seen(seen: Seen) {
     say(b"\nfirst page at which\n");
     first(
-        b"  the weight of all slots is not the bytes held  ",
+        b"  the whole-store check with the bitmaps says no ",
+        seen.whole(),
+    );
+    first(
+        b"    a slot's weight is not its bitmap's bytes    ",
+        seen.slot,
+    );
+    first(
+        b"    the weight of all slots is not the bytes held",
         seen.total,
     );
     first(
-        b"  a slot's weight is not its bitmap's bytes      ",
-        seen.slot,
+        b"    is_sound, which sees the store alone, says no",
+        seen.unsound,
     );
     first(
         b"  a draw fell where there is nothing to free     ",
         seen.empty,
-    );
-    first(
-        b"  is_sound, the whole-store check, says no       ",
-        seen.unsound,
     );
     first(
         b"  there is no room for all glyphs of a page      ",
@@ -185,8 +193,9 @@ pub(crate) fn seen(seen: Seen) {
 
 // The same with commas.
 pub(crate) fn seen_csv(seen: Seen) {
-    say(b"\ntotal,slot,empty,unsound,unshown,pages_unshown\n");
-    show(seen.total);
+    say(b"\nwhole,total,slot,empty,unsound,unshown,pages_unshown\n");
+    show(seen.whole());
+    item(seen.total, true);
     item(seen.slot, true);
     item(seen.empty, true);
     item(seen.unsound, true);
@@ -201,7 +210,7 @@ pub(crate) fn remark(limits: Limits) {
         say(
             b"
 The weight that the old pop leaves in the grandparents makes a cell larger than its children together, never smaller.
-So is_sound can't see it. What does is the comparison with the bytes of the bitmaps.
+So is_sound, which has no more than the store, can't see it. The comparison with the bitmaps' bytes does.
 ",
         );
     }

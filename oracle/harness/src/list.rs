@@ -29,8 +29,7 @@ const REFUSALS: [&[usize]; 18] = [
 ];
 
 /// Random sessions of each part, as many as the size of the list allows.
-const SESSIONS: [(Part, usize); 4] =
-    [(Part::Tree, 110), (Part::Alias, 90), (Part::Binomial, 480), (Part::Ziggurat, 8)];
+const SESSIONS: [(Part, usize); 4] = [(Part::Tree, 110), (Part::Alias, 90), (Part::Binomial, 480), (Part::Ziggurat, 8)];
 
 /// They have fewer slots than this.
 const SLOTS: usize = 8;
