@@ -12,7 +12,7 @@ struct Record {
 fn records() -> Vec<Record> {
     let path = concat!(env!("CARGO_MANIFEST_DIR"), "/../crates/compare/stdin");
     let bytes = std::fs::read(path).expect("the recorded calls");
-    let number = |bytes: &[u8]| bytes.iter().fold(0, |n, &byte| n << 8 | u64::from(byte));
+    let number = |bytes: &[u8]| bytes.iter().fold(0, |n, &byte| (n << 8) | u64::from(byte));
     let mut rest = bytes.as_slice();
     let mut records = Vec::new();
     while let [width, a, b, c, behind @ ..] = rest {

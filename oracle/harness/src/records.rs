@@ -108,12 +108,12 @@ fn width_of(numbers: &[u64]) -> usize {
 /// What a record begins with: the bytes of each number, and how many bytes follow.
 pub fn header(bytes: [u8; 4]) -> (usize, usize) {
     let [width, size @ ..] = bytes;
-    (width.into(), size.iter().fold(0, |size, byte| size << 8 | usize::from(*byte)))
+    (width.into(), size.iter().fold(0, |size, byte| (size << 8) | usize::from(*byte)))
 }
 
 /// The numbers that bytes spell, each of so many.
 pub fn spelled(bytes: &[u8], width: usize) -> Option<Vec<u64>> {
-    let number = |bytes: &[u8]| bytes.iter().fold(0, |number, byte| number << 8 | u64::from(*byte));
+    let number = |bytes: &[u8]| bytes.iter().fold(0, |number, byte| (number << 8) | u64::from(*byte));
     ((1..=8).contains(&width) && bytes.len() % width == 0).then(|| bytes.chunks(width).map(number).collect())
 }
 
@@ -211,7 +211,7 @@ impl Sink {
 
     fn encode(&mut self) {
         let width = width_of(&self.numbers);
-        let header = width << 24 | width * self.numbers.len();
+        let header = (width << 24) | (width * self.numbers.len());
         self.bytes.clear();
         self.bytes.extend((header as u32).to_be_bytes());
         for number in &self.numbers {
