@@ -1,2 +1,3 @@
 -- Laws of bytes and the numbers they spell.
 pub mod Spells
+pub mod Fills

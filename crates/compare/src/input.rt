@@ -31,11 +31,10 @@ pub(crate) fn read_record(bytes: &mut [u8], words: &mut [u64]) -> Next {
     if size % width != 0 {
         return Next::Malformed;
     }
-    read_numbers(bytes, words, width as usize, size)
-}
-
-// Reads so many bytes of numbers of that width.
-fn read_numbers(bytes: &mut [u8], words: &mut [u64], width: usize, size: u64) -> Next {
+    let count = size / width;
+    if (words.len() as u64) < count {
+        return Next::TooLong;
+    }
     if (bytes.len() as u64) < size {
         return Next::TooLong;
     }
@@ -43,25 +42,6 @@ fn read_numbers(bytes: &mut [u8], words: &mut [u64], width: usize, size: u64) ->
     if io::read_full(STDIN_FILENO, &mut bytes[0..wanted]) < wanted {
         return Next::CutOff;
     }
-    decode(&bytes[0..wanted], words, width)
-}
-
-// The numbers that bytes spell, and how many there are; or that the words have no room for them.
-fn decode(bytes: &[u8], words: &mut [u64], width: usize) -> Next {
-    let mut from = 0;
-    let mut i = 0;
-    while i < words.len() {
-        if bytes.len() - from < width {
-            return Next::Record(i);
-        }
-        let to = from + width;
-        words[i] = big_endian::number(&bytes[from..to]);
-        from = to;
-        i = i + 1;
-    }
-    if from == bytes.len() {
-        Next::Record(i)
-    } else {
-        Next::TooLong
-    }
+    big_endian::numbers(words, &bytes[0..wanted], width as usize);
+    Next::Record(count as usize)
 }

@@ -59,20 +59,6 @@ fn generated(pool: &mut [u64], generator: Generator) -> Generator {
     now
 }
 
-// Fills the pool from bytes, as far as both go.
-fn decode(pool: &mut [u64], bytes: &[u8]) {
-    let mut i = 0;
-    while i < pool.len() {
-        if bytes.len() / 8 <= i {
-            return;
-        }
-        let from = i * 8;
-        let to = from + 8;
-        pool[i] = big_endian::number(&bytes[from..to]);
-        i = i + 1;
-    }
-}
-
 // Fills the pool from a file, and says whether that had enough words.
 fn copied(pool: &mut [u64], file: i32, place: u64) -> bool {
     let mut bytes = [0u8; PAGE_BYTES];
@@ -80,7 +66,7 @@ fn copied(pool: &mut [u64], file: i32, place: u64) -> bool {
         return false;
     }
     let got = libc::pread(file, &mut bytes, (place * 8) as i64);
-    decode(pool, &bytes);
+    big_endian::numbers(pool, &bytes, 8);
     got == 512
 }
 

@@ -44,8 +44,8 @@ use Rattle.ziggurat.specs.declared.Rounding.{Rounding}
 use Rattle.ziggurat.specs.Round.{Shape, sample, tail, wedge, tells}
 use Rattle.ziggurat.specs.Round as round
 
--- ---- answers that a contract gives by an equation: every `numbers` and `number` of the answers, `counting::sum`, `big_endian::number`, and
--- the floats of `words`
+-- ---- answers that a contract gives by an equation: every `numbers` and `number` of the answers, `counting::sum`, both calls of `big_endian`,
+-- and the floats of `words`
 pub by-equation : {A : Type 0} {value a b : A} → a ≡ value → b ≡ value → a ≡ b
 by-equation p q = p ∙ sym q
 
