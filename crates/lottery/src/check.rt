@@ -26,17 +26,6 @@ fn first(before: u64, page: u64, is_seen: bool) -> u64 {
     if is_seen { page } else { 0 }
 }
 
-// The earlier of two such pages.
-fn earlier(a: u64, b: u64) -> u64 {
-    if a == 0 {
-        return b;
-    }
-    if b == 0 {
-        return a;
-    }
-    if a < b { a } else { b }
-}
-
 // The weight of all slots together.
 pub(crate) fn total(store: &[u64], count: usize) -> u64 {
     if count == 0 { 0 } else { cell(store, 0) }
@@ -63,7 +52,7 @@ pub(crate) fn wrong_slots(store: &[u64], book: &[u64], count: usize) -> u64 {
     wrong
 }
 
-// What the store alone can say: whether no cell is below its children's sum.
+// The whole-store check, which has no more than the store: whether no cell is below its children's sum.
 pub(crate) fn is_sound(store: &[u64], count: usize) -> bool {
     match weighted_tree::is_sound(store, count) {
         Said::Yes => true,
@@ -105,11 +94,6 @@ impl Seen {
         self.empty = first(self.empty, page, 0 < cache.empty);
         self.unsound = first(self.unsound, page, !is_sound(store, count));
         self
-    }
-
-    // The page at which the check of the whole store, with the bitmaps at hand, said no first.
-    pub(crate) fn whole(self) -> u64 {
-        earlier(earlier(self.total, self.slot), self.unsound)
     }
 
     pub(crate) fn words_ended(mut self) -> Seen {

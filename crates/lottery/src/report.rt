@@ -136,7 +136,7 @@ pub(crate) fn verdicts(store: &[u64], book: &[u64], cache: Cache) {
         weight == cache.held,
     );
     verdict(
-        b"is_sound, which sees the store alone, says yes   ",
+        b"is_sound, the whole-store check, says yes        ",
         check::is_sound(store, count),
     );
 }
@@ -155,19 +155,15 @@ fn first(label: &[u8], page: u64) {
 pub(crate) fn seen(seen: Seen) {
     say(b"\nfirst page at which\n");
     first(
-        b"  the whole-store check with the bitmaps says no ",
-        seen.whole(),
-    );
-    first(
-        b"    a slot's weight is not its bitmap's bytes    ",
+        b"  a slot's weight is not its bitmap's bytes      ",
         seen.slot,
     );
     first(
-        b"    the weight of all slots is not the bytes held",
+        b"  the weight of all slots is not the bytes held  ",
         seen.total,
     );
     first(
-        b"    is_sound, which sees the store alone, says no",
+        b"  is_sound, the whole-store check, says no       ",
         seen.unsound,
     );
     first(
@@ -193,9 +189,8 @@ pub(crate) fn seen(seen: Seen) {
 
 // The same with commas.
 pub(crate) fn seen_csv(seen: Seen) {
-    say(b"\nwhole,total,slot,empty,unsound,unshown,pages_unshown\n");
-    show(seen.whole());
-    item(seen.total, true);
+    say(b"\ntotal,slot,empty,unsound,unshown,pages_unshown\n");
+    show(seen.total);
     item(seen.slot, true);
     item(seen.empty, true);
     item(seen.unsound, true);
