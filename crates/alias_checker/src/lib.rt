@@ -1,5 +1,7 @@
 // What a lent alias table amounts to, whoever made it: whether it draws each index as often as its weight says, and which
 // weights it shows. Both add up what each index has of its own slot and what other slots lend it.
+#![tactic(auto)]
+
 ghost use Rattle.std.specs.Prelude.{◌≡◌, Bool, ℕ, ◌*◌, ◌/◌, ◌<◌, ◌^◌, min, eqb, length, get_or};
 ghost use Rattle.counting.specs.Below.{all_below, list_below};
 ghost use Rattle.weighted_alias.specs.New.{Scales};

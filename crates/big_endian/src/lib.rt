@@ -1,4 +1,6 @@
 // Numbers from bytes, the highest byte first.
+#![tactic(auto)]
+
 ghost use Rattle.std.specs.Prelude.{◌≡◌, take};
 ghost use Rattle.big_endian.specs.Bytes.{from_bytes, spelled};
 

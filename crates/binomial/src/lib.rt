@@ -1,5 +1,7 @@
 // How many of n trials of one chance succeed, drawn by inversion (BINV) from the words of a lent pool. A setup is made once
 // from n and p and then handed to each draw by value; one that was not made here may hold any floats.
+#![tactic(auto)]
+
 ghost use Rattle.std.specs.Prelude.{◌≡◌, ◌≤◌};
 ghost use Rattle.binomial.specs.Setup as setup;
 ghost use Rattle.binomial.specs.New as new;

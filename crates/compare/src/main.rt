@@ -2,6 +2,8 @@
 //
 // docs/VECTORS.md describes a record byte by byte. At the first record that differs, or is cut off or malformed, the
 // program says its place, what was expected and what the port gave, and stops.
+#![tactic(auto)]
+
 mod alias;
 mod call;
 mod float;

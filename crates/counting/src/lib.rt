@@ -1,4 +1,6 @@
 // The sum of lent numbers, refused where it is no u64.
+#![tactic(auto)]
+
 ghost use Rattle.std.specs.Prelude.{◌≡◌};
 ghost use Rattle.counting.specs.Sum.{sum_of, summed};
 

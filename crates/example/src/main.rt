@@ -1,4 +1,6 @@
 // The example of the README: a tree is made, changed and drawn from.
+#![tactic(auto)]
+
 use libc::STDOUT_FILENO;
 
 fn main() {

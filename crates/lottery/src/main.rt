@@ -8,6 +8,8 @@
 // With --fault the last slot is popped as an old build did. The weight that this leaves behind ends up in slots a quarter
 // of the way into the tree, among those of the glyphs in flash. Draws that fall there free nothing, and since such a slot
 // is never given another weight, what is left there stays.
+#![tactic(auto)]
+
 mod arguments;
 mod book;
 mod cache;

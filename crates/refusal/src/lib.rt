@@ -1,4 +1,6 @@
 // Why a call is refused, and the answers of the calls: each is what a call gives, or a refusal.
+#![tactic(auto)]
+
 ghost use Rattle.std.specs.Prelude.{◌≡◌};
 ghost use Rattle.refusal.specs.Number.{number};
 ghost use Rattle.refusal.specs.Answers as answers;

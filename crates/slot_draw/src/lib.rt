@@ -2,6 +2,8 @@
 // array, its number first: 0, or that of the refusal.
 //
 // Every function takes any numbers, any floats, and slices of any length and content. include/slot_draw.h declares them.
+#![tactic(auto)]
+
 mod answer;
 mod floats;
 mod pool;

@@ -2,6 +2,8 @@
 // weights draws the slot itself where the number is below its odds, and else the slot that it is linked to.
 //
 // Every call takes any slices and any numbers; what it can't do it refuses, and then what was lent stays as it was.
+#![tactic(auto)]
+
 mod aliases;
 
 ghost use Rattle.std.specs.Prelude.{◌≡◌, ◌||◌, ℕ, ◌+◌, ◌*◌, ◌<◌, ◌≤◌, ◌^◌, length, get_or};

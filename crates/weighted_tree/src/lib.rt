@@ -2,6 +2,8 @@
 //
 // Cell i has the children 2i + 1 and 2i + 2, and holds its own weight with all that stand below it. Every call
 // takes any store, any count and any number; what it can't do it refuses, and then the store stays as it was.
+#![tactic(auto)]
+
 mod path;
 mod step;
 

@@ -1,4 +1,6 @@
 // Numbers and floats from the words of a lent pool.
+#![tactic(auto)]
+
 mod floats;
 
 ghost use Rattle.std.specs.Prelude.{◌≡◌, ◌-◌, ◌%◌, ◌^◌, ◌<◌, nat_lt};

@@ -1,5 +1,7 @@
 // One round of the ziggurat over two lent tables: the edges X of its layers and the densities F at them. A round ends with a
 // finished sample, in the tail, or in the wedge of a layer, where the caller keeps x if the height is below its density.
+#![tactic(auto)]
+
 ghost use Rattle.std.specs.Prelude.{◌≡◌, ◌+◌, ◌<◌, length};
 ghost use Rattle.ziggurat.specs.Round as round;
 ghost use Rattle.ziggurat.specs.Numbers as numbers;
