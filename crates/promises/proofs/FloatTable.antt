@@ -13,7 +13,6 @@ use lib.Ieee.{Float, nan, inf, fin, binary64, mul, eq, is_nan}
 use Rattle.refusal.specs.Outcome.{gave, in_order}
 use Rattle.refusal.specs.Answers.{drawn_tells}
 use Rattle.refusal.specs.declared.Drawing.{Drawing}
-use Rattle.binomial.specs.declared.Binv.{Binv}
 use Rattle.binomial.specs.declared.Method.{Method}
 use Rattle.binomial.specs.declared.Method.TheVariants as method
 use Rattle.binomial.specs.declared.Made.{Made}
