@@ -1,0 +1,6 @@
+-- Every cell is written.
+use Rattle.weighted_alias.proofs.Scales.{scaled_all}
+use Rattle.weighted_alias.proofs.scale.Goals as goal
+
+pub returns : goal.returns
+returns c = scaled_all _ _ _ _ c.requires.0 c.loop-i.invariant c.loop-i-test.false
