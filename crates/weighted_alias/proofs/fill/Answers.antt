@@ -1,5 +1,5 @@
 -- The parts follow each other as in the definition, and none of them shows what the lent slices held.
-use Rattle.std.proofs.Common.{◌≡◌, ℕ, ◌≤◌, List, length, refl, arith}
+use Rattle.std.proofs.Common.{◌≡◌, ℕ, List, length, arith}
 use Rattle.weighted_alias.specs.declared.aliases.Heads.{Heads}
 use Rattle.weighted_alias.specs.New.{Fills, pair_up, paired, scaled}
 use Rattle.weighted_alias.specs.Lists.{listed, Split}
@@ -24,8 +24,7 @@ settle-requires-2 c =
 
 pub returns : goal.returns
 returns c =
-    let is = paired_is _ _ _ _ _ _ _ c.split-begun.ensures c.requires c.scale.auto.odds c.scale.ensures in
-    (
+    let is = paired_is _ _ _ _ _ _ _ c.split-begun.ensures c.requires c.scale.auto.odds c.scale.ensures in (
       odds_made _ _ is _ _ _ c.pair_up-over.ensures (omega arith) (omega arith) _ _ _ c.requires.sum c.settle.auto.odds c.settle.ensures c.settle-2.ensures,
       links_made _ _ is _ _ _ c.pair_up-over.ensures (omega arith) (omega arith),
     )

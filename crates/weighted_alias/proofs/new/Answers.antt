@@ -15,23 +15,23 @@ first_agrees n a s b h e = e ∙ (rw (eq-eqb a n h))
 pub returns-in-Refused : goal.returns-in-Refused
 returns-in-Refused c =
     let differ : c.if-odds-n.slots ≡ (bad_length (length c.args.weights.now) (length c.args.odds.now) || bad_length (length c.args.weights.now) (length c.args.links.now)) =
-        elim c.if-odds-n.branch [ then-odds-n w ↦ first_differs _ _ _ _ w.if-odds-n.true w.slots-is | else-odds-n w ↦ first_agrees _ _ _ _ w.if-odds-n.false w.slots-is ] in
+    elim c.if-odds-n.branch [ then-odds-n w ↦ first_differs _ _ _ _ w.if-odds-n.true w.slots-is | else-odds-n w ↦ first_agrees _ _ _ _ w.if-odds-n.false w.slots-is ] in
     new_slots _ _ _ c.slots.ensures differ _ c.in-Refused.is
 
 pub fill-requires : goal.fill-requires
 fill-requires c =
     let differ : c.if-odds-n.slots ≡ (bad_length (length c.args.weights.now) (length c.args.odds.now) || bad_length (length c.args.weights.now) (length c.args.links.now)) =
-        elim c.if-odds-n.branch [ then-odds-n w ↦ first_differs _ _ _ _ w.if-odds-n.true w.slots-is | else-odds-n w ↦ first_agrees _ _ _ _ w.if-odds-n.false w.slots-is ] in
+    elim c.if-odds-n.branch [ then-odds-n w ↦ first_differs _ _ _ _ w.if-odds-n.true w.slots-is | else-odds-n w ↦ first_agrees _ _ _ _ w.if-odds-n.false w.slots-is ] in
     new_fills _ c.args.odds.now c.args.links.now c.slots.ensures differ _ c.in-Count.is c.weight_sum.ensures _ c.in-Weight.is
 
 pub returns-in-Refused-weight_sum : goal.returns-in-Refused-weight_sum
 returns-in-Refused-weight_sum c =
     let differ : c.if-odds-n.slots ≡ (bad_length (length c.args.weights.now) (length c.args.odds.now) || bad_length (length c.args.weights.now) (length c.args.links.now)) =
-        elim c.if-odds-n.branch [ then-odds-n w ↦ first_differs _ _ _ _ w.if-odds-n.true w.slots-is | else-odds-n w ↦ first_agrees _ _ _ _ w.if-odds-n.false w.slots-is ] in
+    elim c.if-odds-n.branch [ then-odds-n w ↦ first_differs _ _ _ _ w.if-odds-n.true w.slots-is | else-odds-n w ↦ first_agrees _ _ _ _ w.if-odds-n.false w.slots-is ] in
     new_weights _ _ _ c.slots.ensures differ _ c.in-Count.is c.weight_sum.ensures _ c.in-Refused-weight_sum.is
 
 pub returns-in-Weight : goal.returns-in-Weight
 returns-in-Weight c =
     let differ : c.if-odds-n.slots ≡ (bad_length (length c.args.weights.now) (length c.args.odds.now) || bad_length (length c.args.weights.now) (length c.args.links.now)) =
-        elim c.if-odds-n.branch [ then-odds-n w ↦ first_differs _ _ _ _ w.if-odds-n.true w.slots-is | else-odds-n w ↦ first_agrees _ _ _ _ w.if-odds-n.false w.slots-is ] in
+    elim c.if-odds-n.branch [ then-odds-n w ↦ first_differs _ _ _ _ w.if-odds-n.true w.slots-is | else-odds-n w ↦ first_agrees _ _ _ _ w.if-odds-n.false w.slots-is ] in
     new_filled _ _ _ c.slots.ensures differ _ c.in-Count.is c.weight_sum.ensures _ c.in-Weight.is _ _ c.fill.ensures
