@@ -29,7 +29,7 @@ use Rattle.alias_checker.specs.Weights as weights
 
 -- ---- the checker
 module _ (ws odds links work : List ℕ) where
-  abbrev unequal : Bool
+  abbrev pub unequal : Bool
   unequal = (bad_length (length ws) (length odds) || bad_length (length ws) (length links)) || bad_length (length ws) (length work)
 
   abbrev comes_to : Outcome Bool
@@ -84,7 +84,7 @@ module _ (ws odds links work : List ℕ) where
 
 -- ---- weights
 module _ (odds links : List ℕ) (S : ℕ) (output : List ℕ) where
-  abbrev differs : Bool
+  abbrev pub differs : Bool
   differs = bad_length (length odds) (length links) || bad_length (length odds) (length output)
 
   abbrev zeros : List ℕ

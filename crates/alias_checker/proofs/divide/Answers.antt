@@ -1,0 +1,7 @@
+-- Every cell is divided.
+use Rattle.std.proofs.Common.{arith}
+use Rattle.counting.proofs.Below.{filled_all}
+use Rattle.alias_checker.proofs.divide.Goals as goal
+
+pub returns : goal.returns
+returns c = filled_all _ _ _ _ c.loop-i.invariant (omega arith)
