@@ -129,6 +129,7 @@ pub fn pop(store: &mut [u64], count: usize) -> Popped
 }
 
 // Whether the store has no room for one slot more.
+#[tactic(auto, unfolding(crate::specs::Tests::full))]
 fn is_full(store: &[u64], count: usize) -> bool
     ensures { result ≡ full store.now count }
 {
