@@ -58,6 +58,7 @@ pub(crate) fn weight_at(store: &[u64], count: usize, index: usize) -> u64
 }
 
 // Whether each parent of a cell, up to cell 0, is sound.
+#[tactic(auto, using(crate::proofs::Climb::parents_up, crate::proofs::Climb::parents_top, crate::proofs::Climb::sound_cons, crate::proofs::Climb::sound_stop, crate::proofs::Climb::sound_none))]
 pub(crate) fn parents_sound(store: &[u64], count: usize, index: usize) -> bool
     requires { (count ≤ length store.now) × (index ≤ 4096) }
     ensures { result ≡ sound_all store.now count (parents index) }
