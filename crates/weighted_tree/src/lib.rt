@@ -57,7 +57,7 @@ fn gather(store: &mut [u64], count: usize)
 }
 
 // Makes a tree of the weights in the store, whatever the store held.
-#[tactic(auto, using(crate::proofs::Cells::good_count), unfolding(crate::specs::New::rule, crate::specs::New::changed))]
+#[tactic(auto, using(crate::proofs::Cells::good_count))]
 pub fn new(store: &mut [u64], weights: &[u64]) -> Counted
     ensures { new.Promise store.old weights.now result store.new }
 {
@@ -112,7 +112,7 @@ pub fn get(store: &[u64], count: usize, index: usize) -> Weighed
 }
 
 // Removes the last slot.
-#[tactic(auto, using(crate::proofs::Cells::good_count), unfolding(crate::specs::Pop::rule, crate::specs::Pop::changed))]
+#[tactic(auto, using(crate::proofs::Cells::good_count))]
 pub fn pop(store: &mut [u64], count: usize) -> Popped
     ensures { pop.Promise store.old count result store.new }
 {
@@ -145,7 +145,7 @@ fn is_full(store: &[u64], count: usize) -> bool
 }
 
 // Appends a slot at the end.
-#[tactic(auto, using(crate::proofs::Cells::has_room), unfolding(crate::specs::Push::rule, crate::specs::Push::changed))]
+#[tactic(auto, using(crate::proofs::Cells::has_room))]
 pub fn push(store: &mut [u64], count: usize, weight: u64) -> Counted
     ensures { push.Promise store.old count weight result store.new }
 {
@@ -168,7 +168,7 @@ pub fn push(store: &mut [u64], count: usize, weight: u64) -> Counted
 }
 
 // Changes the weight of a slot.
-#[tactic(auto, using(crate::proofs::Cells::good_count), unfolding(crate::specs::Update::rule, crate::specs::Update::changed))]
+#[tactic(auto, using(crate::proofs::Cells::good_count))]
 pub fn update(store: &mut [u64], count: usize, index: usize, weight: u64) -> Counted
     ensures { update.Promise store.old count index weight result store.new }
 {

@@ -1,13 +1,20 @@
--- The refusal of a damaged tree follows from the tests passed before and the one that failed; and each parent has what is taken from it, since
+-- Each refusal follows from the tests passed before and the one that failed; and each parent has what is taken from it, since
 -- along sound parents the cells only grow.
-use Rattle.std.proofs.Common.{◌≡◌, ◌-◌, true, false, ne_eqb, arith, rules, sym, refl, ◌∙◌}
-use Rattle.refusal.specs.declared.Refusal.TheVariants.{Damaged}
+use Rattle.std.proofs.Common.{◌≡◌, ◌-◌, true, false, eq-eqb, ne_eqb, arith, rules, sym, refl, ◌∙◌}
+use Rattle.refusal.specs.declared.Refusal.TheVariants.{BadCount, Empty, Damaged}
 use Rattle.weighted_tree.specs.Path.{path_of, sound_all, CanChange}
 use Rattle.weighted_tree.specs.Tests.{bad_count}
 use Rattle.weighted_tree.proofs.Cells.{good_count, cell_fits, weight_le}
 use Rattle.weighted_tree.proofs.Climb.{climb, sound_head, each_parents, damaged_no, damaged_yes}
 use Rattle.weighted_tree.proofs.Promised.{pop_refused, pop_done}
 use Rattle.weighted_tree.proofs.pop.Goals as goal
+
+pub returns-then-bad_count : goal.returns-then-bad_count
+returns-then-bad_count c = pop_refused _ _ BadCount refl (sym c.bad_count.ensures ∙ c.if-bad_count.true)
+
+pub returns-then-count-eq0 : goal.returns-then-count-eq0
+returns-then-count-eq0 c =
+    pop_refused _ _ Empty refl (sym c.bad_count.ensures ∙ c.if-bad_count.false, eq-eqb _ _ c.if-count-eq0.true)
 
 pub returns-then-not-path_sound : goal.returns-then-not-path_sound
 returns-then-not-path_sound c =

@@ -1,7 +1,7 @@
 -- Each refusal follows from the tests passed before and the one that failed; and each parent has room for the weight where cell 0 has, since
 -- along sound parents the cells only grow.
 use Rattle.std.proofs.Common.{◌≡◌, ◌+◌, ◌<◌, ◌^◌, true, false, lt-ltb, le-ltb, length-set, arith, sym, refl, ◌∙◌}
-use Rattle.refusal.specs.declared.Refusal.TheVariants.{Damaged, Overflow}
+use Rattle.refusal.specs.declared.Refusal.TheVariants.{BadCount, Full, Damaged, Overflow}
 use Rattle.weighted_tree.specs.Store.{cell_at}
 use Rattle.weighted_tree.specs.Path.{parents, sound_all, CanChange}
 use Rattle.weighted_tree.specs.Tests.{bad_count, full}
@@ -9,6 +9,13 @@ use Rattle.weighted_tree.proofs.Cells.{has_room}
 use Rattle.weighted_tree.proofs.Climb.{climb, each_set, each_parents, damaged_no, damaged_yes}
 use Rattle.weighted_tree.proofs.Promised.{push_refused, push_done}
 use Rattle.weighted_tree.proofs.push.Goals as goal
+
+pub returns-then-bad_count : goal.returns-then-bad_count
+returns-then-bad_count c = push_refused _ _ _ BadCount refl (sym c.bad_count.ensures ∙ c.if-bad_count.true)
+
+pub returns-then-is_full : goal.returns-then-is_full
+returns-then-is_full c =
+    push_refused _ _ _ Full refl (sym c.bad_count.ensures ∙ c.if-bad_count.false, sym c.is_full.ensures ∙ c.if-is_full.true)
 
 pub returns-then-not-parents_sound : goal.returns-then-not-parents_sound
 returns-then-not-parents_sound c =

@@ -1,9 +1,9 @@
 -- Each refusal follows from the tests passed before and the one that failed; and each cell of the path has room for the rise where cell 0 has,
 -- and what the slot falls by, since along sound parents the cells only grow.
-use Rattle.std.proofs.Common.{◌≡◌, ◌+◌, ◌-◌, true, false, lt-ltb, le-ltb, arith, sym, ap, refl, ◌∙◌}
+use Rattle.std.proofs.Common.{◌≡◌, ◌+◌, ◌-◌, true, false, lt-ltb, le-ltb, le-leb, arith, sym, ap, refl, ◌∙◌}
 use Rattle.std.proofs.lemmas.Bool.{lt-leb}
 use Rattle.counting.specs.Sum.{exceeds_u64}
-use Rattle.refusal.specs.declared.Refusal.TheVariants.{Damaged, Overflow}
+use Rattle.refusal.specs.declared.Refusal.TheVariants.{BadCount, BadIndex, Damaged, Overflow}
 use Rattle.weighted_tree.specs.Store.{cell_at}
 use Rattle.weighted_tree.specs.Path.{path_of, sound_all, CanChange}
 use Rattle.weighted_tree.specs.Tests.{bad_count}
@@ -20,6 +20,13 @@ rise c = c.excess-rise.ensures ∙ ap (λ x. c.args.weight - x) c.weight_at-old.
 
 risen : (c : After-subtotal-total) → cell_at c.args.store.now c.args.count 0 + update.rise c.args.store.now c.args.count c.args.index c.args.weight ≡ c.subtotal-total.result + c.excess-rise.result
 risen c = omega (arith, c.subtotal-total.ensures, rise c)
+
+pub returns-then-bad_count : goal.returns-then-bad_count
+returns-then-bad_count c = update_refused _ _ _ _ BadCount refl (sym c.bad_count.ensures ∙ c.if-bad_count.true)
+
+pub returns-then-count-index : goal.returns-then-count-index
+returns-then-count-index c =
+    update_refused _ _ _ _ BadIndex refl (sym c.bad_count.ensures ∙ c.if-bad_count.false, le-leb _ _ c.if-count-index.true)
 
 pub returns-then-not-path_sound : goal.returns-then-not-path_sound
 returns-then-not-path_sound c =
