@@ -1,9 +1,8 @@
 -- Each refusal follows from the tests passed before and the one that failed; and each parent has what is taken from it, since
 -- along sound parents the cells only grow.
-use Rattle.std.proofs.Common.{◌≡◌, ◌-◌, true, false, eq-eqb, ne_eqb, arith, rules, sym, refl, ◌∙◌}
+use Rattle.std.proofs.Common.{◌-◌, eq-eqb, ne_eqb, arith, rules, sym, refl, ◌∙◌}
 use Rattle.refusal.specs.declared.Refusal.TheVariants.{BadCount, Empty, Damaged}
-use Rattle.weighted_tree.specs.Path.{path_of, sound_all, CanChange}
-use Rattle.weighted_tree.specs.Tests.{bad_count}
+use Rattle.weighted_tree.specs.Path.{CanChange}
 use Rattle.weighted_tree.proofs.Cells.{good_count, cell_fits, weight_le}
 use Rattle.weighted_tree.proofs.Climb.{climb, sound_head, each_parents, damaged_no, damaged_yes}
 use Rattle.weighted_tree.proofs.Promised.{pop_refused, pop_done}

@@ -1,10 +1,9 @@
 -- Each refusal follows from the tests passed before and the one that failed; and each parent has room for the weight where cell 0 has, since
 -- along sound parents the cells only grow.
-use Rattle.std.proofs.Common.{◌≡◌, ◌+◌, ◌<◌, ◌^◌, true, false, lt-ltb, le-ltb, length-set, arith, sym, refl, ◌∙◌}
+use Rattle.std.proofs.Common.{◌+◌, ◌<◌, ◌^◌, lt-ltb, le-ltb, length-set, arith, sym, refl, ◌∙◌}
 use Rattle.refusal.specs.declared.Refusal.TheVariants.{BadCount, Full, Damaged, Overflow}
 use Rattle.weighted_tree.specs.Store.{cell_at}
-use Rattle.weighted_tree.specs.Path.{parents, sound_all, CanChange}
-use Rattle.weighted_tree.specs.Tests.{bad_count, full}
+use Rattle.weighted_tree.specs.Path.{CanChange}
 use Rattle.weighted_tree.proofs.Cells.{has_room}
 use Rattle.weighted_tree.proofs.Climb.{climb, each_set, each_parents, damaged_no, damaged_yes}
 use Rattle.weighted_tree.proofs.Promised.{push_refused, push_done}

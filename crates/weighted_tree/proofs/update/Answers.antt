@@ -1,12 +1,11 @@
 -- Each refusal follows from the tests passed before and the one that failed; and each cell of the path has room for the rise where cell 0 has,
 -- and what the slot falls by, since along sound parents the cells only grow.
-use Rattle.std.proofs.Common.{◌≡◌, ◌+◌, ◌-◌, true, false, lt-ltb, le-ltb, le-leb, arith, sym, ap, refl, ◌∙◌}
+use Rattle.std.proofs.Common.{◌≡◌, ◌+◌, ◌-◌, lt-ltb, le-ltb, le-leb, arith, sym, ap, refl, ◌∙◌}
 use Rattle.std.proofs.lemmas.Bool.{lt-leb}
 use Rattle.counting.specs.Sum.{exceeds_u64}
 use Rattle.refusal.specs.declared.Refusal.TheVariants.{BadCount, BadIndex, Damaged, Overflow}
 use Rattle.weighted_tree.specs.Store.{cell_at}
-use Rattle.weighted_tree.specs.Path.{path_of, sound_all, CanChange}
-use Rattle.weighted_tree.specs.Tests.{bad_count}
+use Rattle.weighted_tree.specs.Path.{CanChange}
 use Rattle.weighted_tree.specs.Update as update
 use Rattle.weighted_tree.proofs.Cells.{good_count, weight_le}
 use Rattle.weighted_tree.proofs.Climb.{sound_head, each_path, damaged_no, damaged_yes}
