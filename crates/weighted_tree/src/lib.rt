@@ -239,7 +239,7 @@ pub fn walk(store: &[u64], count: usize, target: u64) -> Drawn
 }
 
 // The slot that the words of a pool draw.
-#[tactic(auto, using(crate::proofs::Cells::good_count, crate::proofs::Cells::cell_some), unfolding(crate::specs::Draw::rule, crate::specs::Walk::walk_end))]
+#[tactic(auto, using(crate::proofs::Cells::good_count, crate::proofs::Cells::cell_some), unfolding(crate::specs::Draw::rule))]
 pub fn draw(store: &[u64], count: usize, pool: &[u64]) -> Drawing
     ensures { draw.Promise store.now count pool.now result }
 {
