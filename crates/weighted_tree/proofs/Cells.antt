@@ -1,11 +1,6 @@
 -- Reading cells: below and beyond the count, whether a cell is sound, and what a count that is not refused means. Assumes nothing.
-use Prim.Native.Nat.{ℕ, ◌+◌, ◌*◌, ◌-◌, ◌≤◌, ◌<◌, ◌^◌}
-use native.Mathlib.Omega.{arith}
-use mathlib.Core.Bool.{Bool, true, false, ◌||◌}
-use mathlib.Core.Path.{◌≡◌, refl, sym, ◌∙◌}
-use borrow.Author.Tests.{lt-ltb, le-ltb, le-leb, lt-leb, leb-true, leb-false, ltb-true, ltb-false, eqb-false}
-use lib.Dec.{leb, ltb}
-use lib.ListN.{length, get_or}
+use Rattle.std.proofs.Common.{ℕ, ◌+◌, ◌*◌, ◌-◌, ◌≤◌, ◌<◌, ◌^◌, arith, Bool, true, false, ◌||◌, ◌≡◌, refl, sym, ◌∙◌, lt-ltb, le-ltb, le-leb, leb-true, leb-false, ltb-true, ltb-false, leb, ltb, length, get_or}
+use Rattle.std.proofs.lemmas.Bool.{lt-leb, eqb-false}
 use Rattle.weighted_tree.specs.Store.{Store, cell_at, children_at, sound_at, weight_at}
 use Rattle.weighted_tree.specs.Step.{covers}
 use Rattle.weighted_tree.specs.Tests.{bad_count, full}

@@ -1,14 +1,7 @@
 -- The way from a cell up to cell 0. The parents end at cell 0 by their own rule, whatever bound the definition has; what is tested and
 -- changed along them goes a parent at a time; and along sound parents the cells only grow, so that each lies between the first cell and the
 -- total. By recursion up the way. Assumes nothing.
-use Prim.Native.Nat.{ℕ, zero, suc, ◌+◌, ◌*◌, ◌-◌, ◌/◌, ◌≤◌, ◌<◌}
-use native.Mathlib.Omega.{arith}
-use mathlib.Core.Bool.{Bool, true, false, ◌&&◌}
-use mathlib.Core.Path.{◌≡◌, refl, ap, ◌∙◌}
-use mathlib.Core.List.{List, [], ◌∷◌}
-use mathlib.Core.Logic.{◌⊎◌, inl, inr}
-use lib.ListN.{get_or, set}
-use lib.Seq.{get_or-set_other}
+use Rattle.std.proofs.Common.{ℕ, zero, suc, ◌+◌, ◌*◌, ◌-◌, ◌/◌, ◌≤◌, ◌<◌, arith, Bool, true, false, ◌&&◌, ◌≡◌, refl, ap, ◌∙◌, List, [], ◌∷◌, ◌⊎◌, inl, inr, get_or, set, get_or-set_other}
 use Rattle.weighted_tree.specs.Store.{Store, cell_at, sound_at}
 use Rattle.weighted_tree.specs.Path.{parents_in, parents, path_of, indexes_below, sound_all, change_all, Each}
 use Rattle.weighted_tree.specs.Tests.{damaged}

@@ -1,12 +1,7 @@
 -- Making a tree: the copy of the weights and the gathering of the subtotals, a step at a time. What is not gathered yet keeps its sum, so no
 -- step of the gathering exceeds u64 where the weights' sum does not. Assumes nothing.
-use Prim.Native.Nat.{ℕ, zero, suc, ◌+◌, ◌-◌, ◌/◌, ◌≤◌, ◌<◌, ◌^◌}
-use native.Mathlib.Omega.{arith}
-use native.Mathlib.Numerals.{add-one}
-use mathlib.Core.Path.{◌≡◌, refl, sym, ap, ◌∙◌}
-use mathlib.Core.List.{List, [], ◌∷◌, ◌++◌}
-use lib.ListN.{length, get_or, set, take, drop}
-use lib.Seq.{take-suc, drop-cons, set_at, append_snoc, length-take-le, take_all, take-set-lt, get_or-take, take-append_seam}
+use Rattle.std.proofs.Common.{ℕ, zero, suc, ◌+◌, ◌-◌, ◌/◌, ◌≤◌, ◌<◌, ◌^◌, arith, add-one, ◌≡◌, refl, sym, ap, ◌∙◌, List, [], ◌∷◌, ◌++◌, length, get_or, set, take, drop, take-suc, drop-cons, length-take-le, take_all, get_or-take}
+use Rattle.std.proofs.Math.Seq.{set_at, append_snoc, take-set-lt, take-append_seam}
 use Rattle.counting.specs.Sum.{sum_of}
 use Rattle.counting.proofs.Sums.{sum_suc, sum_elem, sum_set}
 use Rattle.weighted_tree.specs.Store.{Store}

@@ -1,10 +1,6 @@
 -- What the calls that change a store promise: where one is refused, the store as it was; else the change. From the order of the refusals, for
 -- each call once. Assumes nothing.
-use Prim.Native.Nat.{ℕ, ◌+◌, ◌-◌}
-use mathlib.Core.Bool.{true}
-use mathlib.Core.Path.{◌≡◌, ◌∙◌}
-use mathlib.Core.List.{List, ◌++◌}
-use lib.ListN.{length, set, drop}
+use Rattle.std.proofs.Common.{ℕ, ◌+◌, ◌-◌, true, ◌≡◌, ◌∙◌, List, ◌++◌, length, set, drop}
 use Rattle.refusal.specs.Number.{number}
 use Rattle.refusal.specs.Outcome.{Exactly, None}
 use Rattle.refusal.specs.declared.Refusal.{Refusal}

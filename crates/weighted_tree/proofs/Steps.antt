@@ -1,12 +1,6 @@
 -- The walk by target, a step at a time; and that it ends by its own test: its last cell satisfies neither branch, whatever bound the
 -- definition has, since each cell that it goes to holds something and so lies below the count. Assumes nothing.
-use Prim.Native.Nat.{ℕ, zero, suc, pred, ◌+◌, ◌*◌, ◌-◌, ◌≤◌, ◌<◌}
-use native.Mathlib.Omega.{arith}
-use mathlib.Core.Bool.{Bool, true, false, cond}
-use mathlib.Core.Path.{◌≡◌, refl, sym, ◌∙◌}
-use mathlib.Core.List.{List, [], ◌∷◌}
-use borrow.Author.Tests.{lt-ltb, le-ltb, ltb-true, ltb-false, ne_eqb}
-use lib.Dec.{ltb}
+use Rattle.std.proofs.Common.{ℕ, zero, suc, pred, ◌+◌, ◌*◌, ◌-◌, ◌≤◌, ◌<◌, arith, Bool, true, false, cond, ◌≡◌, refl, sym, ◌∙◌, List, [], ◌∷◌, lt-ltb, le-ltb, ltb-true, ltb-false, ne_eqb, ltb}
 use Rattle.refusal.proofs.Draws.{draw_ends}
 use Rattle.refusal.specs.Outcome.{Outcome, gave, refused, consumed}
 use Rattle.refusal.specs.Answers.{Ended, drawn_tells}

@@ -57,6 +57,7 @@ fn gather(store: &mut [u64], count: usize)
 }
 
 // Makes a tree of the weights in the store, whatever the store held.
+#[tactic(auto, using(crate::proofs::Cells::good_count))]
 pub fn new(store: &mut [u64], weights: &[u64]) -> Counted
     ensures { new.Promise store.old weights.now result store.new }
 {
@@ -76,6 +77,7 @@ pub fn new(store: &mut [u64], weights: &[u64]) -> Counted
 }
 
 // Whether the tree can be drawn from.
+#[tactic(auto, using(crate::proofs::Cells::good_count), unfolding(crate::specs::IsValid::rule))]
 pub fn is_valid(store: &[u64], count: usize) -> Said
     ensures { is_valid.Promise store.now count result }
 {
@@ -93,6 +95,7 @@ pub fn is_valid(store: &[u64], count: usize) -> Said
 }
 
 // The weight of a slot.
+#[tactic(auto, using(crate::proofs::Cells::good_count), unfolding(crate::specs::Get::rule, crate::specs::Path::sound_all, crate::specs::Tests::damaged))]
 pub fn get(store: &[u64], count: usize, index: usize) -> Weighed
     ensures { get.Promise store.now count index result }
 {
@@ -109,6 +112,7 @@ pub fn get(store: &[u64], count: usize, index: usize) -> Weighed
 }
 
 // Removes the last slot.
+#[tactic(auto, using(crate::proofs::Cells::good_count))]
 pub fn pop(store: &mut [u64], count: usize) -> Popped
     ensures { pop.Promise store.old count result store.new }
 {
@@ -129,6 +133,7 @@ pub fn pop(store: &mut [u64], count: usize) -> Popped
 }
 
 // Whether the store has no room for one slot more.
+#[tactic(auto, unfolding(crate::specs::Tests::full))]
 fn is_full(store: &[u64], count: usize) -> bool
     ensures { result ≡ full store.now count }
 {
@@ -140,6 +145,7 @@ fn is_full(store: &[u64], count: usize) -> bool
 }
 
 // Appends a slot at the end.
+#[tactic(auto, using(crate::proofs::Cells::has_room))]
 pub fn push(store: &mut [u64], count: usize, weight: u64) -> Counted
     ensures { push.Promise store.old count weight result store.new }
 {
@@ -162,6 +168,7 @@ pub fn push(store: &mut [u64], count: usize, weight: u64) -> Counted
 }
 
 // Changes the weight of a slot.
+#[tactic(auto, using(crate::proofs::Cells::good_count))]
 pub fn update(store: &mut [u64], count: usize, index: usize, weight: u64) -> Counted
     ensures { update.Promise store.old count index weight result store.new }
 {
@@ -214,6 +221,7 @@ fn descend(store: &[u64], count: usize, target: u64) -> Drawn
 }
 
 // The slot that a target draws.
+#[tactic(auto, using(crate::proofs::Cells::good_count, crate::proofs::Cells::cell_some), unfolding(crate::specs::Walk::rule, crate::specs::Walk::walk_end))]
 pub fn walk(store: &[u64], count: usize, target: u64) -> Drawn
     ensures { walk.Promise store.now count target result }
 {
@@ -231,6 +239,7 @@ pub fn walk(store: &[u64], count: usize, target: u64) -> Drawn
 }
 
 // The slot that the words of a pool draw.
+#[tactic(auto, using(crate::proofs::Cells::good_count, crate::proofs::Cells::cell_some), unfolding(crate::specs::Draw::rule))]
 pub fn draw(store: &[u64], count: usize, pool: &[u64]) -> Drawing
     ensures { draw.Promise store.now count pool.now result }
 {
@@ -248,6 +257,7 @@ pub fn draw(store: &[u64], count: usize, pool: &[u64]) -> Drawing
 }
 
 // Whether each of the first cells is sound.
+#[tactic(auto, using(crate::proofs::Climb::below_next, crate::proofs::Climb::below_none, crate::proofs::Climb::sound_cons, crate::proofs::Climb::sound_stop, crate::proofs::Climb::sound_none))]
 fn all_sound(store: &[u64], count: usize) -> bool
     requires { (count ≤ length store.now) × (count ≤ 4096) }
     ensures { result ≡ sound_all store.now count (indexes_below count) }
@@ -263,6 +273,7 @@ fn all_sound(store: &[u64], count: usize) -> bool
 }
 
 // Whether all cells below the count are sound.
+#[tactic(auto, using(crate::proofs::Cells::good_count), unfolding(crate::specs::IsSound::rule))]
 pub fn is_sound(store: &[u64], count: usize) -> Said
     ensures { is_sound.Promise store.now count result }
 {

@@ -8,6 +8,7 @@ ghost use Rattle.weighted_tree.specs.Tests.{bad_count};
 pub const MOST_SLOTS: usize = 4096;
 
 // Whether this may not be the count of the store.
+#[tactic(auto, unfolding(crate::specs::Tests::bad_count))]
 pub(crate) fn bad_count(store: &[u64], count: usize) -> bool
     ensures { result ≡ bad_count store.now count }
 {
@@ -26,6 +27,7 @@ pub(crate) fn excess(a: u64, b: u64) -> u64
 }
 
 // A cell, which reads 0 at or beyond the count, whatever lies there.
+#[tactic(auto, unfolding(crate::specs::Store::cell_at))]
 pub(crate) fn subtotal(store: &[u64], count: usize, index: usize) -> u64
     requires { count ≤ length store.now }
     ensures { result ≡ cell_at store.now count index }
@@ -34,6 +36,7 @@ pub(crate) fn subtotal(store: &[u64], count: usize, index: usize) -> u64
 }
 
 // Whether a cell is at least what its children hold together.
+#[tactic(auto, using(crate::proofs::Cells::sound_is))]
 pub(crate) fn sound(store: &[u64], count: usize, index: usize) -> bool
     requires { (count ≤ length store.now) × (index < 4096) }
     ensures { result ≡ sound_at store.now count index }
@@ -44,6 +47,7 @@ pub(crate) fn sound(store: &[u64], count: usize, index: usize) -> bool
 }
 
 // The weight of a sound cell.
+#[tactic(auto, using(crate::proofs::Cells::sound_le), unfolding(crate::specs::Store::weight_at, crate::specs::Store::children_at))]
 pub(crate) fn weight_at(store: &[u64], count: usize, index: usize) -> u64
     requires { (count ≤ length store.now) × (index < 4096) × (sound_at store.now count index ≡ true) }
     ensures { result ≡ weight_at store.now count index }
@@ -54,6 +58,7 @@ pub(crate) fn weight_at(store: &[u64], count: usize, index: usize) -> u64
 }
 
 // Whether each parent of a cell, up to cell 0, is sound.
+#[tactic(auto, using(crate::proofs::Climb::parents_up, crate::proofs::Climb::parents_top, crate::proofs::Climb::sound_cons, crate::proofs::Climb::sound_stop, crate::proofs::Climb::sound_none))]
 pub(crate) fn parents_sound(store: &[u64], count: usize, index: usize) -> bool
     requires { (count ≤ length store.now) × (index ≤ 4096) }
     ensures { result ≡ sound_all store.now count (parents index) }
@@ -69,6 +74,7 @@ pub(crate) fn parents_sound(store: &[u64], count: usize, index: usize) -> bool
 }
 
 // Whether a cell and each parent of it are sound.
+#[tactic(auto, using(crate::proofs::Climb::sound_cons, crate::proofs::Climb::sound_stop))]
 pub(crate) fn path_sound(store: &[u64], count: usize, index: usize) -> bool
     requires { (count ≤ length store.now) × (index < 4096) }
     ensures { result ≡ sound_all store.now count (path_of index) }
