@@ -1,7 +1,7 @@
 /* slot_draw.h: weighted draws of slots over lent memory. No allocation, no generator, no state: words come from a lent
  * pool, and every call takes any numbers, any floats and memory of any content. What it can't do it refuses.
  *
- * Link target/staticlib/libslot_draw.a, which `rt staticlib slot_draw` writes: x86-64 Linux, System V calls. It needs the
+ * Link target/staticlib/libslot_draw.a, which `sh tools/archive` writes: x86-64 Linux, System V calls. It needs the
  * C library's memset and nothing else. The functions are proved; this header is tested against them. docs/RULES.md says
  * what each answers and leaves; the two lines above each function are its rule in short.
  *

@@ -1,5 +1,5 @@
 //! Finds the static library: the archive that `SLOT_DRAW_LIB` names, or `target/staticlib/libslot_draw.a` of the
-//! repository, which `rt staticlib slot_draw` writes.
+//! repository, which `sh tools/archive` writes.
 use std::env;
 use std::path::PathBuf;
 
@@ -17,7 +17,7 @@ fn main() {
     };
     assert!(
         archive.is_file(),
-        "{} is missing: run `rt staticlib slot_draw`, or name the archive in SLOT_DRAW_LIB",
+        "{} is missing: run `sh tools/archive`, or name the archive in SLOT_DRAW_LIB",
         archive.display()
     );
     let folder = archive.parent().expect("an archive stands in a folder");
