@@ -1,7 +1,5 @@
 -- A law of the setup's promise for each test that ends the call; and else what is made of the numbers of BINV.
-use Rattle.std.proofs.Common.{◌≡◌}
 use lib.Ieee.{of_bits}
-use Rattle.binomial.specs.New.{too_small}
 use Rattle.binomial.proofs.Setups.{small_below, small_nan, not_small, new_small, new_large, new_many, new_never, new_always, new_later}
 use Rattle.binomial.proofs.new.Goals as goal
 use Rattle.binomial.proofs.new.Goals.{then-p-via-then-p, then-p-via-else-p+then-p-2}

@@ -1,5 +1,5 @@
 -- The chance that the numbers are made from is the smaller of p and 1 - p. Then the tests of 16 and 17, and the numbers of BINV, each by its law.
-use Rattle.std.proofs.Common.{◌≡◌, ◌∙◌, refl}
+use Rattle.std.proofs.Common.{◌≡◌, ◌∙◌}
 use lib.Ieee.{of_bits}
 use Rattle.binomial.specs.Setup.{smaller}
 use Rattle.binomial.proofs.Setups.{later_btpe, later_poisson, later_binv}
