@@ -1,4 +1,4 @@
-// The exports of the float kernels. A float is handed in as a double, any NaN included, and told by its bits.
+// The functions of the float kernels. A float is handed in as a double, any NaN included, and told by its bits.
 ghost use Rattle.std.specs.Prelude.{◌≡◌};
 ghost use Rattle.slot_draw.specs.Binomial as binv;
 ghost use Rattle.slot_draw.specs.Ziggurat as round;

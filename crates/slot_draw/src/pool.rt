@@ -1,4 +1,4 @@
-// The exports of numbers and floats from words.
+// Numbers and floats from words.
 ghost use Rattle.std.specs.Prelude.{◌≡◌};
 ghost use Rattle.words.specs.Floats as floats;
 ghost use Rattle.slot_draw.specs.Words as below;

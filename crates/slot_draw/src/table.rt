@@ -1,4 +1,4 @@
-// The exports of the alias table. The answer of each is three cells.
+// The functions of the alias table. The answer of each is three cells.
 ghost use Rattle.slot_draw.specs.Alias as alias;
 
 use crate::answer::tell;

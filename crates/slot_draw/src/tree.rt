@@ -1,4 +1,4 @@
-// The exports of the tree. The answer of each is three cells.
+// The functions of the tree. The answer of each is three cells.
 ghost use Rattle.slot_draw.specs.Tree as tree;
 
 use crate::answer::tell;
