@@ -1,11 +1,6 @@
 -- One attempt: how it goes a step at a time, that the bound on its steps cuts nothing off, and that it ends at n at most. And the search for the
 -- first attempt that ends: how it goes a word at a time, and what it finds. Assumes nothing.
-use mathlib.Core.Path.{◌≡◌, refl, ap}
-use mathlib.Core.Bool.{Bool, true, false, cond, ◌||◌}
-use Prim.Native.Nat.{ℕ, zero, suc, ◌+◌, ◌≤◌, ◌<◌}
-use native.Mathlib.Omega.{arith}
-use borrow.Author.Tests.{lt-ltb, le-ltb, ltb-false}
-use lib.Dec.{ltb}
+use Rattle.std.proofs.Common.{◌≡◌, refl, ap, Bool, true, false, cond, ◌||◌, ℕ, zero, suc, ◌+◌, ◌≤◌, ◌<◌, arith, lt-ltb, le-ltb, ltb-false, ltb}
 use lib.Ieee.{Float, binary64, sub, lt}
 use Rattle.binomial.specs.declared.Binv.{Binv}
 use Rattle.binomial.specs.declared.Attempt.{Attempt}

@@ -1,10 +1,6 @@
 -- A power by its bits: how it goes a bit at a time, and that the number of bits that are looked at cuts nothing off. Assumes nothing.
-use mathlib.Core.Path.{◌≡◌, refl, sym, ap, ◌∙◌}
-use mathlib.Core.Bool.{cond}
-use Prim.Native.Nat.{ℕ, zero, suc, ◌/◌, ◌%◌, ◌^◌, ◌<◌}
+use Rattle.std.proofs.Common.{◌≡◌, refl, sym, ap, ◌∙◌, cond, ℕ, zero, suc, ◌/◌, ◌%◌, ◌^◌, ◌<◌, arith, eqb}
 use native.Mathlib.Nat.{two-pow-succ}
-use native.Mathlib.Omega.{arith}
-use lib.Dec.{eqb}
 use lib.Ieee.{Float, binary64, mul}
 use Rattle.binomial.specs.Setup.{one, power_from, power_of}
 

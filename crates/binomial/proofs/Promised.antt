@@ -1,11 +1,5 @@
 -- What the draw promises, by how it ended, and that its count is at most n whatever floats the setup holds. Assumes nothing.
-use Prim.Native.Nat.{ℕ, ◌+◌, ◌-◌, ◌≤◌, ◌<◌}
-use mathlib.Core.Path.{◌≡◌, refl, sym, ap, ◌∙◌}
-use mathlib.Core.Bool.{Bool, true, false, cond}
-use mathlib.Core.List.{List}
-use native.Mathlib.Omega.{arith}
-use borrow.Author.Tests.{le-ltb, lt-ltb, ne_eqb}
-use lib.ListN.{get_or}
+use Rattle.std.proofs.Common.{ℕ, ◌+◌, ◌-◌, ◌≤◌, ◌<◌, ◌≡◌, refl, sym, ap, ◌∙◌, Bool, true, false, cond, List, arith, le-ltb, lt-ltb, ne_eqb, get_or}
 use Rattle.refusal.specs.Outcome.{consumed}
 use Rattle.refusal.specs.Answers.{drawn_tells, Ended}
 use Rattle.refusal.specs.declared.Refusal.TheVariants.{OutOfWords, TooManyTrials}

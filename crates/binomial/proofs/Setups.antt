@@ -1,8 +1,5 @@
 -- What the setup promises, by which of its tests held: one law for each way out. Assumes nothing.
-use Prim.Native.Nat.{ℕ, ◌+◌, ◌≤◌, ◌<◌}
-use mathlib.Core.Path.{◌≡◌, refl, sym, ◌∙◌}
-use mathlib.Core.Bool.{Bool, true, false, ◌||◌}
-use borrow.Author.Tests.{le-ltb, lt-ltb}
+use Rattle.std.proofs.Common.{ℕ, ◌+◌, ◌≤◌, ◌<◌, ◌≡◌, refl, sym, ◌∙◌, Bool, true, false, ◌||◌, le-ltb, lt-ltb}
 use lib.Ieee.{Float, binary64, mul, div, lt, le, eq, ne, is_nan}
 use Rattle.refusal.specs.Outcome.{gave, refused}
 use Rattle.refusal.specs.declared.Refusal.TheVariants.{ProbabilityTooSmall, ProbabilityTooLarge, TooManyTrials}

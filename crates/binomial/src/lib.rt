@@ -19,7 +19,7 @@ const MOST_SUCCESSES: u64 = 110;
 
 // What BINV needs: the chance r of no success, s and a for the step from one count to the next, the number of trials, and
 // whether successes and failures are exchanged.
-#[derive(Drop)]
+#[derive(Clone, Copy)]
 pub struct Binv {
     pub r: f64,
     pub s: f64,

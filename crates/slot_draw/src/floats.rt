@@ -1,4 +1,4 @@
-// The exports of the float kernels. A float is handed in as a double, any NaN included, and told by its bits.
+// The functions of the float kernels. A float is handed in as a double, any NaN included, and told by its bits.
 ghost use Rattle.std.specs.Prelude.{◌≡◌};
 ghost use Rattle.slot_draw.specs.Binomial as binv;
 ghost use Rattle.slot_draw.specs.Ziggurat as round;
@@ -7,8 +7,7 @@ use crate::answer::tell;
 use binomial::{Binv, Method};
 
 // A setup is seven cells: the number, the kind, n, the bits of r, s and a, and the flip.
-#[unsafe(no_mangle)]
-pub extern "C" fn slot_draw_binomial_new(n: u64, p: f64, setup: &mut [u64; 7])
+pub fn slot_draw_binomial_new(n: u64, p: f64, setup: &mut [u64; 7])
     ensures { binv.New n p setup.new }
 {
     let told = binomial::new(n, p).numbers();
@@ -38,16 +37,14 @@ fn method_of(setup: &[u64; 7]) -> Method
     Method::Binv(Binv { r, s, a, n, flip })
 }
 
-#[unsafe(no_mangle)]
-pub extern "C" fn slot_draw_binomial_draw(setup: &[u64; 7], pool: &[u64], answer: &mut [u64; 3])
+pub fn slot_draw_binomial_draw(setup: &[u64; 7], pool: &[u64], answer: &mut [u64; 3])
     ensures { binv.Draw setup.now pool.now answer.new }
 {
     tell(answer, binomial::draw(method_of(setup), pool).numbers());
 }
 
 // A round is five cells: the number, the kind, the bits of its two floats, and the words.
-#[unsafe(no_mangle)]
-pub extern "C" fn slot_draw_ziggurat_round(
+pub fn slot_draw_ziggurat_round(
     edges: &[f64],
     densities: &[f64],
     symmetric: bool,

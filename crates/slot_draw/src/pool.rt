@@ -1,4 +1,4 @@
-// The exports of numbers and floats from words.
+// Numbers and floats from words.
 ghost use Rattle.std.specs.Prelude.{◌≡◌};
 ghost use Rattle.words.specs.Floats as floats;
 ghost use Rattle.slot_draw.specs.Words as below;
@@ -7,8 +7,7 @@ use crate::answer::tell;
 use refusal::{Numbers, Refusal};
 use words::Taken;
 
-#[unsafe(no_mangle)]
-pub extern "C" fn slot_draw_number_below(pool: &[u64], total: u64, answer: &mut [u64; 3])
+pub fn slot_draw_number_below(pool: &[u64], total: u64, answer: &mut [u64; 3])
     ensures { below.NumberBelow pool.now total answer.new }
 {
     match words::number_below(pool, total) {
@@ -17,22 +16,19 @@ pub extern "C" fn slot_draw_number_below(pool: &[u64], total: u64, answer: &mut 
     }
 }
 
-#[unsafe(no_mangle)]
-pub extern "C" fn slot_draw_unit(word: u64) -> f64
+pub fn slot_draw_unit(word: u64) -> f64
     ensures { result ≡ floats.unit word }
 {
     words::unit(word)
 }
 
-#[unsafe(no_mangle)]
-pub extern "C" fn slot_draw_symmetric_u(word: u64) -> f64
+pub fn slot_draw_symmetric_u(word: u64) -> f64
     ensures { result ≡ floats.symmetric_u word }
 {
     words::symmetric_u(word)
 }
 
-#[unsafe(no_mangle)]
-pub extern "C" fn slot_draw_one_sided_u(word: u64) -> f64
+pub fn slot_draw_one_sided_u(word: u64) -> f64
     ensures { result ≡ floats.one_sided_u word }
 {
     words::one_sided_u(word)

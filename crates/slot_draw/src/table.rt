@@ -1,10 +1,9 @@
-// The exports of the alias table. The answer of each is three cells.
+// The functions of the alias table. The answer of each is three cells.
 ghost use Rattle.slot_draw.specs.Alias as alias;
 
 use crate::answer::tell;
 
-#[unsafe(no_mangle)]
-pub extern "C" fn slot_draw_alias_new(
+pub fn slot_draw_alias_new(
     weights: &[u64],
     odds: &mut [u64],
     links: &mut [u32],
@@ -15,8 +14,7 @@ pub extern "C" fn slot_draw_alias_new(
     tell(answer, weighted_alias::new(weights, odds, links).numbers());
 }
 
-#[unsafe(no_mangle)]
-pub extern "C" fn slot_draw_alias_draw(
+pub fn slot_draw_alias_draw(
     odds: &[u64],
     links: &[u32],
     sum: u64,
@@ -31,8 +29,7 @@ pub extern "C" fn slot_draw_alias_draw(
     );
 }
 
-#[unsafe(no_mangle)]
-pub extern "C" fn slot_draw_alias_check(
+pub fn slot_draw_alias_check(
     weights: &[u64],
     odds: &[u64],
     links: &[u32],
@@ -47,8 +44,7 @@ pub extern "C" fn slot_draw_alias_check(
     );
 }
 
-#[unsafe(no_mangle)]
-pub extern "C" fn slot_draw_alias_weights(
+pub fn slot_draw_alias_weights(
     odds: &[u64],
     links: &[u32],
     sum: u64,

@@ -1,12 +1,6 @@
 -- The magnitude, as the code takes it: a float below 0.0 is negated, and any other compares as its magnitude does, minus zero too. Assumes nothing.
-use mathlib.Core.Path.{◌≡◌, refl, sym, ap, ◌∙◌}
-use mathlib.Core.Bool.{true, false, true≢false, false≢true}
-use Prim.Native.Nat.{ℕ, ◌+◌, ◌*◌, ◌<◌, ◌≤◌}
-use native.Mathlib.Nat.{zero-mul, zero-add}
-use native.Mathlib.Omega.{arith}
-use borrow.Author.Tests.{ltb-true, ltb-false, le-ltb}
-use lib.IntN.{ℤ}
-use lib.Dec.{ltb}
+use Rattle.std.proofs.Common.{◌≡◌, refl, sym, ap, ◌∙◌, true, false, true≢false, ℕ, ◌+◌, ◌*◌, ◌<◌, ◌≤◌, zero-mul, zero-add, arith, ltb-true, ltb-false, le-ltb, ℤ, ltb}
+use mathlib.Core.Bool.{false≢true}
 use lib.Ieee.{Float, nan, inf, fin, up, down, neg, lt, of_bits, binary64}
 use Rattle.ziggurat.specs.Round.{magnitude}
 

@@ -1,12 +1,5 @@
 -- What a round promises, by how it ended: one law for each way out, and the words go by what the round ended with. Assumes nothing.
-use mathlib.Core.Path.{◌≡◌, refl, ap, ◌∙◌}
-use mathlib.Core.Bool.{Bool, true, false, not, ◌||◌}
-use mathlib.Core.List.{List, [], ◌∷◌}
-use Prim.Native.Nat.{ℕ, ◌+◌, ◌<◌}
-use native.Mathlib.Omega.{arith}
-use borrow.Author.Tests.{lt-ltb, le-ltb, eq-eqb, ne_eqb}
-use lib.Dec.{eqb}
-use lib.ListN.{length, get_or}
+use Rattle.std.proofs.Common.{◌≡◌, refl, ap, ◌∙◌, Bool, true, false, not, ◌||◌, List, [], ◌∷◌, ℕ, ◌+◌, ◌<◌, arith, lt-ltb, le-ltb, eq-eqb, ne_eqb, eqb, length, get_or}
 use lib.Ieee.{Float, nan, binary64, mul}
 use Rattle.refusal.specs.Outcome.{Outcome, gave, refused, in_order, consumed}
 use Rattle.ziggurat.specs.declared.Rounded.{Rounded}
