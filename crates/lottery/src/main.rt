@@ -113,15 +113,21 @@ fn open(rt: &impl Files<File = File>, name: &[u8]) -> io::Result<File> {
     }
 }
 
+// An error's words without the system's number for it.
+fn reason(text: &str) -> &str {
+    match text.split_once(" (os error ") {
+        Some((words, _)) => words,
+        None => text,
+    }
+}
+
 // Says of a file that it can't be opened, and why.
 fn fail(alloc: Global, errors: &mut impl Write, name: &[u8], error: &io::Error) -> io::Result<()> {
     let text = format!(in alloc; "{error}")?;
-    let why = match text.as_str().split_once(" (os error ") {
-        Some((words, _)) => words,
-        None => text.as_str(),
-    };
     errors.write_all(name)?;
-    writeln!(errors, ": {why}")
+    errors.write_all(b": ")?;
+    errors.write_all(reason(text.as_str()).as_bytes())?;
+    errors.write_all(b"\n")
 }
 
 // With the words of a file that is named among the arguments.
