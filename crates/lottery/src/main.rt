@@ -105,7 +105,7 @@ fn simulate(out: &mut impl Write, settings: Settings, source: Source<'_>) -> io:
     perform(out, &mut store, &mut book, settings, source)
 }
 
-// The file of a name, which may be any text.
+// Opens the file of a name. std opens none whose name is not UTF-8.
 fn open(rt: &impl Files<File = File>, name: &[u8]) -> io::Result<File> {
     match std::str::from_utf8(name) {
         Ok(path) => File::open(rt, path),
