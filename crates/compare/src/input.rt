@@ -1,8 +1,11 @@
 // Records from standard input: how many bytes a number has, how many bytes follow, and the numbers, each with its highest
 // byte first.
-use libc::STDIN_FILENO;
+ghost use Rattle.std.specs.Prelude.{◌≤◌, length, IfOk};
 
-#[derive(Drop)]
+use std::io;
+use std::io::Read;
+
+#[derive(Clone, Copy)]
 pub enum Next {
     Record(usize),
     End,
@@ -11,38 +14,57 @@ pub enum Next {
     Malformed,
 }
 
+// Reads until the buffer is full or the input ends, and says how many bytes it put at the buffer's start.
+fn read_full(input: &mut impl Read, buffer: &mut [u8]) -> io::Result<usize>
+    ensures { IfOk result (λ n. n ≤ length buffer.new) }
+{
+    let mut done = 0;
+    while done < buffer.len() {
+        let got = input.read(&mut buffer[done..])?;
+        if got == 0 {
+            return Ok(done);
+        }
+        done = done + got;
+    }
+    Ok(done)
+}
+
 // Reads a record into the words, and says how many it has.
-pub(crate) fn read_record(bytes: &mut [u8], words: &mut [u64]) -> Next {
+pub(crate) fn read_record(
+    input: &mut impl Read,
+    bytes: &mut [u8],
+    words: &mut [u64],
+) -> io::Result<Next> {
     let mut header = [0u8; 4];
-    let got = io::read_full(STDIN_FILENO, &mut header);
+    let got = read_full(input, &mut header)?;
     if got == 0 {
-        return Next::End;
+        return Ok(Next::End);
     }
     if got < 4 {
-        return Next::CutOff;
+        return Ok(Next::CutOff);
     }
     let width = big_endian::number(&header[0..1]);
     let size = big_endian::number(&header[1..4]);
     if width == 0 {
-        return Next::Malformed;
+        return Ok(Next::Malformed);
     }
     if 8 < width {
-        return Next::Malformed;
+        return Ok(Next::Malformed);
     }
     if size % width != 0 {
-        return Next::Malformed;
+        return Ok(Next::Malformed);
     }
     let count = size / width;
     if (words.len() as u64) < count {
-        return Next::TooLong;
+        return Ok(Next::TooLong);
     }
     if (bytes.len() as u64) < size {
-        return Next::TooLong;
+        return Ok(Next::TooLong);
     }
     let wanted = size as usize;
-    if io::read_full(STDIN_FILENO, &mut bytes[0..wanted]) < wanted {
-        return Next::CutOff;
+    if read_full(input, &mut bytes[0..wanted])? < wanted {
+        return Ok(Next::CutOff);
     }
     big_endian::numbers(words, &bytes[0..wanted], width as usize);
-    Next::Record(count as usize)
+    Ok(Next::Record(count as usize))
 }

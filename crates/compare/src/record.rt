@@ -3,14 +3,14 @@ ghost use Rattle.compare.specs.Parts.{Within};
 ghost use Rattle.std.specs.Prelude.{length};
 
 // Where a list of a record lies: from its first number up to its end.
-#[derive(Drop)]
+#[derive(Clone, Copy)]
 pub enum Part {
     Of(usize, usize),
     Missing,
 }
 
 // What came of a record: the answers agree, they differ, the lent cells do, or it is no record.
-#[derive(Drop)]
+#[derive(Clone, Copy)]
 pub enum Verdict {
     Same,
     Answer,

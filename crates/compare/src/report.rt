@@ -1,37 +1,37 @@
 // Counting the records of each call, and saying what differs.
 use crate::record;
 use crate::record::Verdict;
-use libc::STDOUT_FILENO;
+use std::io;
+use std::io::Write;
 
-fn say(text: &[u8]) {
-    io::write_all(STDOUT_FILENO, text);
+fn say(out: &mut impl Write, text: &[u8]) -> io::Result<()> {
+    out.write_all(text)
 }
 
-fn show(number: u64) {
-    say(b" ");
-    io::print_decimal(STDOUT_FILENO, number);
+fn show(out: &mut impl Write, number: u64) -> io::Result<()> {
+    write!(out, " {number}")
 }
 
-fn name(call: u64) {
+fn name(out: &mut impl Write, call: u64) -> io::Result<()> {
     match call {
-        1 => say(b"new"),
-        2 => say(b"is_valid"),
-        3 => say(b"get"),
-        4 => say(b"pop"),
-        5 => say(b"push"),
-        6 => say(b"update"),
-        7 => say(b"walk"),
-        8 => say(b"draw"),
-        9 => say(b"is_sound"),
-        10 => say(b"number_below"),
-        11 => say(b"alias new"),
-        12 => say(b"alias draw"),
-        13 => say(b"alias weights"),
-        14 => say(b"alias check"),
-        15 => say(b"binomial new"),
-        16 => say(b"binomial draw"),
-        17 => say(b"ziggurat round"),
-        _ => say(b"unknown call"),
+        1 => say(out, b"new"),
+        2 => say(out, b"is_valid"),
+        3 => say(out, b"get"),
+        4 => say(out, b"pop"),
+        5 => say(out, b"push"),
+        6 => say(out, b"update"),
+        7 => say(out, b"walk"),
+        8 => say(out, b"draw"),
+        9 => say(out, b"is_sound"),
+        10 => say(out, b"number_below"),
+        11 => say(out, b"alias new"),
+        12 => say(out, b"alias draw"),
+        13 => say(out, b"alias weights"),
+        14 => say(out, b"alias check"),
+        15 => say(out, b"binomial new"),
+        16 => say(out, b"binomial draw"),
+        17 => say(out, b"ziggurat round"),
+        _ => say(out, b"unknown call"),
     }
 }
 
@@ -43,90 +43,103 @@ fn count(tally: &mut [u64], call: u64) {
     }
 }
 
-fn at_place(place: u64) {
-    say(b"record");
-    show(place);
-    say(b" ");
+fn at_place(out: &mut impl Write, place: u64) -> io::Result<()> {
+    say(out, b"record")?;
+    show(out, place)?;
+    say(out, b" ")
 }
 
 // A record that can't be replayed: the first cell of the tally says that the run stopped.
-pub(crate) fn stopped(tally: &mut [u64], place: u64, why: &[u8]) {
+pub(crate) fn stopped(
+    out: &mut impl Write,
+    tally: &mut [u64],
+    place: u64,
+    why: &[u8],
+) -> io::Result<()> {
     count(tally, 0);
-    at_place(place);
-    say(why);
-    say(b"\n");
+    at_place(out, place)?;
+    say(out, why)?;
+    say(out, b"\n")
 }
 
-fn show_all(numbers: &[u64]) {
-    let mut i = 0;
-    while i < numbers.len() {
-        show(numbers[i]);
-        i = i + 1;
+fn show_all(out: &mut impl Write, numbers: &[u64]) -> io::Result<()> {
+    for number in numbers {
+        show(out, *number)?;
     }
+    Ok(())
 }
 
-fn differs(words: &[u64], got: &[u64; 8], tally: &mut [u64], place: u64) {
+fn differs(
+    out: &mut impl Write,
+    words: &[u64],
+    got: &[u64; 8],
+    tally: &mut [u64],
+    place: u64,
+) -> io::Result<()> {
     count(tally, 0);
-    at_place(place);
-    say(b"(");
-    name(record::call(words));
-    say(b") differs: expected");
-    show_all(record::numbers(words, record::ANSWER));
-    say(b", the port gave");
-    show_all(got);
-    say(b"\n");
+    at_place(out, place)?;
+    say(out, b"(")?;
+    name(out, record::call(words))?;
+    say(out, b") differs: expected")?;
+    show_all(out, record::numbers(words, record::ANSWER))?;
+    say(out, b", the port gave")?;
+    show_all(out, got)?;
+    say(out, b"\n")
 }
 
 // Says what came of a record, and whether to go on.
 pub(crate) fn judged(
+    out: &mut impl Write,
     verdict: Verdict,
     words: &[u64],
     got: &[u64; 8],
     tally: &mut [u64],
     place: u64,
-) -> bool {
+) -> io::Result<bool> {
     match verdict {
         Verdict::Same => {
             count(tally, record::call(words));
-            true
+            Ok(true)
         }
         Verdict::Answer => {
-            differs(words, got, tally, place);
-            false
+            differs(out, words, got, tally, place)?;
+            Ok(false)
         }
         Verdict::Cells => {
-            differs(words, got, tally, place);
-            say(b"its answer agrees, and the lent cells it leaves do not\n");
-            false
+            differs(out, words, got, tally, place)?;
+            say(
+                out,
+                b"its answer agrees, and the lent cells it leaves do not\n",
+            )?;
+            Ok(false)
         }
         Verdict::Malformed => {
-            stopped(tally, place, b"is malformed");
-            false
+            stopped(out, tally, place, b"is malformed")?;
+            Ok(false)
         }
     }
 }
 
 // A line for each call, and the verdict.
-pub(crate) fn summary(tally: &[u64]) {
+pub(crate) fn summary(out: &mut impl Write, tally: &[u64]) -> io::Result<()> {
     let mut all: u64 = 0;
     let mut call = 1;
     while call < tally.len() {
         let agree = tally[call];
         if 0 < agree {
-            name(call as u64);
-            say(b":");
-            show(agree);
-            say(b" agree\n");
+            name(out, call as u64)?;
+            say(out, b":")?;
+            show(out, agree)?;
+            say(out, b" agree\n")?;
             all = std::num::wrapping_add_u64(all, agree);
         }
         call = call + 1;
     }
-    io::print_decimal(STDOUT_FILENO, all);
+    write!(out, "{all}")?;
     if 0 < tally.len() {
         if 0 < tally[0] {
-            say(b" records agree; stopped before the end\n");
-            return;
+            return say(out, b" records agree; stopped before the end\n");
         }
     }
-    say(b" records, all agree\n");
+    say(out, b" records, all agree\n")
 }

@@ -1,9 +1,12 @@
 // What the program is asked for.
-ghost use Rattle.std.specs.Prelude.{◌≤◌};
+ghost use Rattle.std.specs.Prelude.{◌≤◌, length};
 
 use crate::text;
 use crate::text::{Read, same};
-use libc::STDERR_FILENO;
+use std::env::FillError;
+use std::io;
+use std::io::Write;
+use std::rt::Env;
 
 pub const MOST_PAGES: u64 = 100000;
 
@@ -16,7 +19,7 @@ const LEAST_SLOTS: u64 = 513;
 const MOST_SLOTS: u64 = 4096;
 
 // words is the place among the arguments of the file's name, 0 where there is none.
-#[derive(Drop)]
+#[derive(Clone, Copy)]
 pub struct Settings {
     pub pages: u64,
     pub heap: u64,
@@ -29,7 +32,7 @@ pub struct Settings {
 }
 
 // The options.
-#[derive(Drop)]
+#[derive(Clone, Copy)]
 enum Flag {
     Pages,
     Heap,
@@ -69,15 +72,28 @@ fn flag_named(name: &[u8]) -> Flag {
     }
 }
 
-fn flag_at(place: usize) -> Flag {
-    let mut name = io::buffer();
-    let length = os::arg(place, &mut name);
+// The bytes of the longest argument that is read.
+pub const LONGEST: usize = 4096;
+
+// Puts an argument at the start of the buffer and says how long it is, 0 where it is missing or too long.
+pub(crate) fn argument(rt: &impl Env, place: usize, buffer: &mut [u8]) -> usize
+    ensures { result ≤ length buffer.new }
+{
+    match rt.arg(place, buffer) {
+        Ok(length) => length,
+        Err(_) => 0,
+    }
+}
+
+fn flag_at(rt: &impl Env, place: usize) -> Flag {
+    let mut name = [0u8; LONGEST];
+    let length = argument(rt, place, &mut name);
     flag_named(&name[..length])
 }
 
-fn number_at(place: usize) -> Read {
-    let mut digits = io::buffer();
-    let length = os::arg(place, &mut digits);
+fn number_at(rt: &impl Env, place: usize) -> Read {
+    let mut digits = [0u8; LONGEST];
+    let length = argument(rt, place, &mut digits);
     text::number(&digits[..length])
 }
 
@@ -122,8 +138,8 @@ impl Settings {
     }
 
     // The settings with a number that stands at a place.
-    fn with_number(mut self, flag: Flag, place: usize) -> Settings {
-        match number_at(place) {
+    fn with_number(mut self, rt: &impl Env, flag: Flag, place: usize) -> Settings {
+        match number_at(rt, place) {
             Read::Number(value) => self.with(flag, value),
             Read::Bad => {
                 self.is_bad = true;
@@ -160,11 +176,11 @@ impl Settings {
 const MOST_ARGUMENTS: usize = 32;
 
 // The settings after the option at a place, whose value may stand at the next.
-fn option(settings: Settings, flag: Flag, next: usize, count: usize) -> Settings {
+fn option(rt: &impl Env, settings: Settings, flag: Flag, next: usize, count: usize) -> Settings {
     match flag {
-        Flag::Pages => settings.with_number(flag, next),
-        Flag::Heap => settings.with_number(flag, next),
-        Flag::Slots => settings.with_number(flag, next),
+        Flag::Pages => settings.with_number(rt, flag, next),
+        Flag::Heap => settings.with_number(rt, flag, next),
+        Flag::Slots => settings.with_number(rt, flag, next),
         _ => settings.switched(flag, next, count),
     }
 }
@@ -182,8 +198,19 @@ fn width(flag: Flag) -> usize
     }
 }
 
-pub(crate) fn read() -> Settings {
-    let count = os::arg_count();
+// How many arguments there are, the program's name among them; one more than MOST_ARGUMENTS stands for all above.
+fn count(rt: &impl Env) -> usize {
+    for place in 0..MOST_ARGUMENTS + 1 {
+        let mut start = [0u8; 1];
+        if let Err(FillError::NotPresent) = rt.arg(place, &mut start) {
+            return place;
+        }
+    }
+    MOST_ARGUMENTS + 1
+}
+
+pub(crate) fn read(rt: &impl Env) -> Settings {
+    let count = count(rt);
     let mut settings = Settings::new();
     if MOST_ARGUMENTS < count {
         settings.is_bad = true;
@@ -191,16 +218,15 @@ pub(crate) fn read() -> Settings {
     }
     let mut place = 1;
     while place < count {
-        let flag = flag_at(place);
-        settings = option(settings, flag, place + 1, count);
+        let flag = flag_at(rt, place);
+        settings = option(rt, settings, flag, place + 1, count);
         place = place + width(flag);
     }
     settings
 }
 
-pub(crate) fn usage(out: i32) {
-    io::write_all(
-        out,
+pub(crate) fn usage(out: &mut impl Write) -> io::Result<()> {
+    out.write_all(
         b"usage: lottery [--pages N] [--heap BYTES] [--slots N] [--words FILE] [--fault] [--csv]
 
 Loads pages of glyphs into a bounded heap, and evicts glyphs by lottery.
@@ -213,14 +239,11 @@ Loads pages of glyphs into a bounded heap, and evicts glyphs by lottery.
   --csv         every page, with commas
   --help        this text
 ",
-    );
+    )
 }
 
 // Says that the arguments are none of these.
-pub(crate) fn complain() {
-    io::write_all(
-        STDERR_FILENO,
-        b"lottery: an argument is unknown, lacks its value or is out of its range\n",
-    );
-    usage(STDERR_FILENO);
+pub(crate) fn complain(errors: &mut impl Write) -> io::Result<()> {
+    errors.write_all(b"lottery: an argument is unknown, lacks its value or is out of its range\n")?;
+    usage(errors)
 }

@@ -10,7 +10,7 @@ use refusal::{Counted, Drawn, Popped};
 const FLASH_SLOTS: usize = glyph::IN_FLASH as usize;
 
 // What the cache may hold, and whether it pops as the old build did.
-#[derive(Drop)]
+#[derive(Clone, Copy)]
 pub struct Limits {
     pub heap: u64,
     pub slots: u64,
@@ -18,7 +18,7 @@ pub struct Limits {
 }
 
 // What the cache has, and what it did since it began.
-#[derive(Drop)]
+#[derive(Clone, Copy)]
 pub struct Cache {
     pub count: usize,
     pub held: u64,
@@ -127,7 +127,7 @@ fn want(store: &mut [u64], book: &mut [u64], cache: Cache, wanted: u64, limits: 
 }
 
 // A page's glyphs: the cache after them, the generator that chose them, and whether all found room.
-#[derive(Drop)]
+#[derive(Clone, Copy)]
 pub struct Loaded {
     pub cache: Cache,
     pub chooser: Generator,
@@ -201,7 +201,7 @@ fn evict(store: &mut [u64], book: &mut [u64], cache: Cache, slot: usize, is_faul
 }
 
 // One draw: the cache after it, and the words it used, 0 where it was refused.
-#[derive(Drop)]
+#[derive(Clone, Copy)]
 struct Turn {
     cache: Cache,
     used: usize,

@@ -6,7 +6,7 @@ use crate::sums::cell;
 use refusal::{Said, Weighed};
 
 // Pages at which something was seen first, 0 for never, and how many pages were not shown.
-#[derive(Drop)]
+#[derive(Clone, Copy)]
 pub struct Seen {
     pub total: u64,
     pub slot: u64,

@@ -1,4 +1,6 @@
 // Words: from a generator of this program alone, or from a file, eight bytes a word, the highest byte first.
+use std::fs::File;
+use std::os::unix::fs::FileExt;
 
 // The words that a page's draws are lent.
 pub const PAGE_WORDS: usize = 64;
@@ -6,7 +8,7 @@ pub const PAGE_WORDS: usize = 64;
 const PAGE_BYTES: usize = 512;
 
 // A generator: a shift register, and a counter that is added to what it gives.
-#[derive(Drop)]
+#[derive(Clone, Copy)]
 pub struct Generator {
     pub register: u64,
     pub counter: u64,
@@ -40,10 +42,9 @@ impl Generator {
 }
 
 // Where the words come from: a file, from the place of a word on, or the generator.
-#[derive(Drop)]
-pub struct Source {
-    pub is_file: bool,
-    pub file: i32,
+#[derive(Clone, Copy)]
+pub struct Source<'a> {
+    pub file: Option<&'a File>,
     pub place: u64,
     pub is_out: bool,
     pub generator: Generator,
@@ -62,20 +63,22 @@ fn generated(pool: &mut [u64], generator: Generator) -> Generator {
 }
 
 // Fills the pool from a file, and says whether that had enough words.
-fn copied(pool: &mut [u64], file: i32, place: u64) -> bool {
+fn copied(pool: &mut [u64], file: &File, place: u64) -> bool {
     let mut bytes = [0u8; PAGE_BYTES];
     if 1152921504606846975 <= place {
         return false;
     }
-    let got = libc::pread(file, &mut bytes, (place * 8) as i64);
+    let got = match file.read_at(&mut bytes, place * 8) {
+        Ok(got) => got,
+        Err(_) => 0,
+    };
     big_endian::numbers(pool, &bytes, 8);
-    got == 512
+    got == PAGE_BYTES
 }
 
-impl Source {
-    pub(crate) fn new(is_file: bool, file: i32) -> Source {
+impl<'a> Source<'a> {
+    pub(crate) fn new(file: Option<&'a File>) -> Source<'a> {
         Source {
-            is_file,
             file,
             place: 0,
             is_out: false,
@@ -84,10 +87,9 @@ impl Source {
     }
 
     // Lends a page its words. A file that has fewer left is out.
-    pub(crate) fn lend(mut self, pool: &mut [u64]) -> Source {
-        if self.is_file {
-            let place = self.place;
-            self.is_out = !copied(pool, self.file, place);
+    pub(crate) fn lend(mut self, pool: &mut [u64]) -> Source<'a> {
+        if let Some(file) = self.file {
+            self.is_out = !copied(pool, file, self.place);
             return self;
         }
         let generator = self.generator;
@@ -97,7 +99,7 @@ impl Source {
     }
 
     // After so many of the words that were lent are used.
-    pub(crate) fn used(mut self, words: u64) -> Source {
+    pub(crate) fn used(mut self, words: u64) -> Source<'a> {
         self.place = crate::sums::plus(self.place, words);
         self
     }

@@ -1,25 +1,18 @@
 // Text: lines and numbers out, words and numbers of arguments in.
-use libc::STDOUT_FILENO;
+use std::io;
+use std::io::Write;
 
-pub(crate) fn say(text: &[u8]) {
-    io::write_all(STDOUT_FILENO, text);
+pub(crate) fn say(out: &mut impl Write, text: &[u8]) -> io::Result<()> {
+    out.write_all(text)
 }
 
-pub(crate) fn show(number: u64) {
-    io::print_decimal(STDOUT_FILENO, number);
+pub(crate) fn show(out: &mut impl Write, number: u64) -> io::Result<()> {
+    write!(out, "{number}")
 }
 
-const SPACES: usize = 10;
-
-// A number at the right of a column.
-pub(crate) fn column(number: u64) {
-    let mut digits = [0u8; 20];
-    let count = io::decimal(number, &mut digits);
-    if count < SPACES {
-        let spaces = [b' '; SPACES];
-        io::write_all(STDOUT_FILENO, &spaces[count..]);
-    }
-    io::write_all(STDOUT_FILENO, &digits[..count]);
+// A number at the right of a column of ten.
+pub(crate) fn column(out: &mut impl Write, number: u64) -> io::Result<()> {
+    write!(out, "{number:>10}")
 }
 
 // Whether two texts are the same.
@@ -38,7 +31,7 @@ pub(crate) fn same(a: &[u8], b: &[u8]) -> bool {
 }
 
 // A number of decimal digits, at most twelve of them.
-#[derive(Drop)]
+#[derive(Clone, Copy)]
 pub enum Read {
     Number(u64),
     Bad,
