@@ -29,14 +29,14 @@ pub struct Binv {
 }
 
 // How a setup draws.
-#[derive(Drop)]
+#[derive(Clone, Copy)]
 pub enum Method {
     Constant(u64),
     Binv(Binv),
 }
 
 // The setup that was made.
-#[derive(Drop)]
+#[derive(Clone, Copy)]
 pub enum Made {
     Setup(Method),
     Refused(Refusal),
@@ -44,7 +44,7 @@ pub enum Made {
 
 // A setup as numbers: 0, or the number of the refusal; 0 for a constant and 1 for BINV; the constant, or n; the bits of r, s
 // and a; 1 where it is flipped. What a setup does not have is 0.
-#[derive(Drop)]
+#[derive(Clone, Copy)]
 pub struct SetupNumbers {
     pub number: u64,
     pub kind: u64,
@@ -102,7 +102,7 @@ impl Made {
 }
 
 // What an attempt comes to.
-#[derive(Drop)]
+#[derive(Clone, Copy)]
 pub enum Attempt {
     Ended(u64),
     GaveUp,

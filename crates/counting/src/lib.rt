@@ -4,7 +4,7 @@
 ghost use Rattle.std.specs.Prelude.{◌≡◌};
 ghost use Rattle.counting.specs.Sum.{sum_of, summed};
 
-#[derive(Drop)]
+#[derive(Clone, Copy)]
 pub enum Summed {
     Sum(u64),
     Exceeds,

@@ -6,7 +6,7 @@ ghost use Rattle.refusal.specs.Number.{number};
 ghost use Rattle.refusal.specs.Answers as answers;
 
 // The refusals in the order of their numbers, 1 to 17.
-#[derive(Drop)]
+#[derive(Clone, Copy)]
 pub enum Refusal {
     InvalidInput,
     InvalidWeight,
@@ -54,7 +54,7 @@ impl Refusal {
 }
 
 // An answer as three numbers: 0 and the values that were given, or the refusal's number and two zeros.
-#[derive(Drop)]
+#[derive(Clone, Copy)]
 pub struct Numbers {
     pub number: u64,
     pub first: u64,
@@ -84,7 +84,7 @@ impl Numbers {
 }
 
 // The answer to a question.
-#[derive(Drop)]
+#[derive(Clone, Copy)]
 pub enum Said {
     Yes,
     No,
@@ -104,7 +104,7 @@ impl Said {
 }
 
 // A count: of a tree's slots after the call, or of the weights that a call wrote.
-#[derive(Drop)]
+#[derive(Clone, Copy)]
 pub enum Counted {
     Count(usize),
     Refused(Refusal),
@@ -122,7 +122,7 @@ impl Counted {
 }
 
 // A weight: a slot's, or the sum of a table's.
-#[derive(Drop)]
+#[derive(Clone, Copy)]
 pub enum Weighed {
     Weight(u64),
     Refused(Refusal),
@@ -140,7 +140,7 @@ impl Weighed {
 }
 
 // The weight that was popped, and the count that the tree then has.
-#[derive(Drop)]
+#[derive(Clone, Copy)]
 pub enum Popped {
     Weight(u64, usize),
     Refused(Refusal),
@@ -158,7 +158,7 @@ impl Popped {
 }
 
 // The index that a target or a pair draws.
-#[derive(Drop)]
+#[derive(Clone, Copy)]
 pub enum Drawn {
     Index(usize),
     Refused(Refusal),
@@ -176,7 +176,7 @@ impl Drawn {
 }
 
 // A draw from a pool, with the words that it consumed.
-#[derive(Drop)]
+#[derive(Clone, Copy)]
 pub struct Drawing {
     pub outcome: Drawn,
     pub words: usize,

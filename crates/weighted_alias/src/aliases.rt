@@ -7,7 +7,7 @@ ghost use Rattle.weighted_alias.specs.Lists as lists;
 // The mark of a list's end.
 const END: u32 = 4294967295;
 
-#[derive(Drop)]
+#[derive(Clone, Copy)]
 pub struct Heads {
     pub small: u32,
     pub big: u32,

@@ -3,7 +3,7 @@ ghost use Rattle.std.specs.Prelude.{◌≡◌};
 ghost use Rattle.weighted_tree.specs.Step as step;
 
 // Where a walk goes: to a child, with what is left of the target, or nowhere further.
-#[derive(Drop)]
+#[derive(Clone, Copy)]
 pub enum Step {
     Unsound,
     Left,

@@ -9,7 +9,7 @@ ghost use Rattle.words.specs.Below as below;
 pub use floats::{bits_of, float_of, one_sided_u, symmetric_u, unit};
 
 // A number below a total, with the place of the word that gave it, counted from one.
-#[derive(Drop)]
+#[derive(Clone, Copy)]
 pub enum Taken {
     Target(u64, usize),
     Nothing,

@@ -12,7 +12,7 @@ use refusal::Refusal;
 pub const TABLE_LENGTH: usize = 257;
 
 // What a round ends with: a sample with x, a tail with u, or a wedge with x and the height.
-#[derive(Drop)]
+#[derive(Clone, Copy)]
 pub enum Rounded {
     Sample(f64),
     Tail(f64),
@@ -21,7 +21,7 @@ pub enum Rounded {
 }
 
 // A round, with the words that it consumed.
-#[derive(Drop)]
+#[derive(Clone, Copy)]
 pub struct Rounding {
     pub outcome: Rounded,
     pub words: usize,
@@ -29,7 +29,7 @@ pub struct Rounding {
 
 // A round as numbers: 0, or the number of the refusal; 1 for a sample, 2 for a tail and 3 for a wedge; the bits of its floats;
 // the words. What a round does not have is 0.
-#[derive(Drop)]
+#[derive(Clone, Copy)]
 pub struct RoundNumbers {
     pub number: u64,
     pub kind: u64,
