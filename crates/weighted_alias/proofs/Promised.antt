@@ -56,9 +56,16 @@ neither false b e = (refl, e)
 pub good_length : (n lent : ℕ) → bad_length n lent ≡ false → lent ≡ n
 good_length n lent e = eqb-true lent n (not-false (eqb lent n) e)
 
+-- whether a lent length is another than n, or what is asked of the others then, as code asks it
+pub first_differs : (n a : ℕ) (s b : Bool) → (a ≡ n → ⊥) → s ≡ bad_length n a → s ≡ (bad_length n a || b)
+first_differs n a s b h e = e ∙ (rw (ne_eqb a n h))
+
+pub first_agrees : (n a : ℕ) (s b : Bool) → a ≡ n → s ≡ b → s ≡ (bad_length n a || b)
+first_agrees n a s b h e = e ∙ (rw (eq-eqb a n h))
+
 -- ---- the builder
 module _ (ws odds links : List ℕ) where
-  abbrev lengths : Bool
+  abbrev pub lengths : Bool
   lengths = bad_length (length ws) (length odds) || bad_length (length ws) (length links)
 
   new_refused : (r : Refusal) → refused (number r) ≡ new.rule ws (length odds) (length links) → new.Promise ws odds links (weighed.Refused r) odds links

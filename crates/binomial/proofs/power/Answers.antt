@@ -15,7 +15,11 @@ pub loop-bits-preserved : goal.loop-bits-preserved
 loop-bits-preserved c =
     let l = c.loop-bits in
     let z = power_step l.invariant.0 l.bits l.current l.made _ c.loop-bits-test.true l.invariant.1 l.invariant.2 in
-    let made : c.if-bits-eq1.made ≡ cond (eqb (l.bits % 2) 1) (mul binary64 l.made l.current) l.made = elim c.if-bits-eq1.branch [ then-bits-eq1 w ↦ w.made-is ∙ simp (eq-eqb _ _ w.if-bits-eq1.true) | else-bits-eq1 w ↦ w.made-is ∙ simp (ne_eqb _ _ w.if-bits-eq1.false) ] in
+    let made : c.if-bits-eq1.made ≡ cond (eqb (l.bits % 2) 1) (mul binary64 l.made l.current) l.made =
+    elim c.if-bits-eq1.branch [
+      | then-bits-eq1 w ↦ w.made-is ∙ simp (eq-eqb _ _ w.if-bits-eq1.true)
+      | else-bits-eq1 w ↦ w.made-is ∙ simp (ne_eqb _ _ w.if-bits-eq1.false)
+    ] in
     (z.0, z.1, ap (power_from z.0 (l.bits / 2) (mul binary64 l.current l.current)) made ∙ z.2)
 
 pub returns : goal.returns

@@ -10,7 +10,12 @@ use Rattle.binomial.proofs.try_unit.Goals.{then-x-gt-MOST_SUCCESSES-via-then-x-g
 pub returns-then-x-gt-MOST_SUCCESSES : goal.returns-then-x-gt-MOST_SUCCESSES
 returns-then-x-gt-MOST_SUCCESSES c =
     let l = c.loop-r in
-    let far : too_far c.args.b.n (l.x + 1) ≡ true = elim c.then-x-gt-MOST_SUCCESSES.branch [ then-x-gt-MOST_SUCCESSES-via-then-x-gt-MOST_SUCCESSES w ↦ past_110 _ _ w.if-x-gt-MOST_SUCCESSES.true | then-x-gt-MOST_SUCCESSES-via-else-x-gt-MOST_SUCCESSES+then-x-b w ↦ past_n c.args.b.n (l.x + 1) (lt-ltb c.args.b.n (l.x + 1) w.if-x-b.true) ] in
+    let far : too_far c.args.b.n (l.x + 1) ≡ true =
+    elim c.then-x-gt-MOST_SUCCESSES.branch [
+      | then-x-gt-MOST_SUCCESSES-via-then-x-gt-MOST_SUCCESSES w ↦ past_110 _ _ w.if-x-gt-MOST_SUCCESSES.true
+      | then-x-gt-MOST_SUCCESSES-via-else-x-gt-MOST_SUCCESSES+then-x-b w ↦
+          past_n c.args.b.n (l.x + 1) (lt-ltb c.args.b.n (l.x + 1) w.if-x-b.true)
+    ] in
     sym (attempt_gives_up c.args.b l.x l.u l.r (lt l.r l.u) (111 - l.x) (110 - l.x) (omega arith) c.loop-r-test.true far) ∙ l.invariant.same
 
 pub loop-r-preserved : goal.loop-r-preserved

@@ -7,7 +7,8 @@ use Rattle.weighted_alias.proofs.Settles.{split_ready, pairs_as, settles_small, 
 use Rattle.weighted_alias.proofs.fill.Goals as goal
 
 -- what the split leaves is paired as in the definition
-paired_is : (S n : ℕ) (ws odds links links' : List ℕ) (h : Heads) → Split S odds links (length odds) links' h → Fills ws n (length links) S → length odds ≡ n → odds ≡ scaled ws → pair_up (length odds) S (listed odds links' h) ≡ paired ws
+paired_is : (S n : ℕ) (ws odds links links' : List ℕ) (h : Heads) → Split S odds links (length odds) links' h → Fills ws n (length links) S → length odds ≡ n → odds ≡ scaled ws
+    → pair_up (length odds) S (listed odds links' h) ≡ paired ws
 paired_is S n ws odds links links' h k f long e =
     pairs_as S odds links links' h k (omega (arith, f.odds_long, f.links_long)) (omega (arith, f.odds_long, f.few)) ws f.sum e (omega (arith, f.odds_long))
 

@@ -9,7 +9,12 @@ pub returns-then-edges-ne-TABLE_LENGTH : goal.returns-then-edges-ne-TABLE_LENGTH
 returns-then-edges-ne-TABLE_LENGTH c =
     let X = c.args.edges.now in
     let F = c.args.densities.now in
-    let bad : bad_length X F ≡ true = elim c.then-edges-ne-TABLE_LENGTH.branch [ then-edges-ne-TABLE_LENGTH-via-then-edges-ne-TABLE_LENGTH w ↦ edges_bad X F w.if-edges-ne-TABLE_LENGTH.true | then-edges-ne-TABLE_LENGTH-via-else-edges-ne-TABLE_LENGTH+then-densities-ne-TABLE_LENGTH w ↦ densities_bad X F (ap not (ne_eqb (length F) 257 w.if-densities-ne-TABLE_LENGTH.true)) ] in
+    let bad : bad_length X F ≡ true =
+    elim c.then-edges-ne-TABLE_LENGTH.branch [
+      | then-edges-ne-TABLE_LENGTH-via-then-edges-ne-TABLE_LENGTH w ↦ edges_bad X F w.if-edges-ne-TABLE_LENGTH.true
+      | then-edges-ne-TABLE_LENGTH-via-else-edges-ne-TABLE_LENGTH+then-densities-ne-TABLE_LENGTH w ↦
+          densities_bad X F (ap not (ne_eqb (length F) 257 w.if-densities-ne-TABLE_LENGTH.true))
+    ] in
     round_ends _ _ _ _ _ _ c.new.ensures (round_bad _ _ _ _ bad)
 
 pub returns-then-pool-eq0 : goal.returns-then-pool-eq0
