@@ -9,8 +9,8 @@ use mathlib.Core.Path.{◌≡◌, refl, sym, ◌∙◌}
 use mathlib.Core.List.{List, [], ◌∷◌, ◌++◌}
 use borrow.Author.Tests.{lt-ltb, le-ltb, eqb-true, eqb-false, ltb-true, ltb-false}
 use lib.Dec.{ltb, eqb}
-use lib.ListN.{set, length-set, length, get_or, length-append, get_or-append}
-use lib.Seq.{get_or-set_same, get_or-set_other, get_or_at, ext_get_or}
+use lib.ListN.{length, get_or, length-append, get_or-append}
+use lib.Seq.{get_or_at, ext_get_or}
 use Rattle.counting.specs.Sum.{sum_of}
 use Rattle.counting.specs.Below.{sum_below, how_many, all_below, some_below, list_below}
 
@@ -178,23 +178,6 @@ some_found (suc n) test e = go (test n) refl (all_below n (λ i. not (test i))) 
     go false q false r ih = let found = ih refl in (found.0, omega (arith, found.1), found.2)
     go false q true r ih = absurd (let z : not (all_below n (λ i. not (test i)) && not (test n)) ≡ true = e in let w : ◌≡◌ {A = Bool} false true = rw (r, q) at z in let y : ◌≡◌ {A = ℕ} 0 1 = cc in omega arith)
 
--- a test that is put to one number after the other
-pub record Passed (test : ℕ → Bool) (i : ℕ) : Type 0 where
-  pub so_far : (k : ℕ) → k < i → test k ≡ true
-
-pub passed_begins : (test : ℕ → Bool) → Passed test 0
-passed_begins test = record { so_far = λ k h. absurd (omega arith) }
-
-pub passed_next : (test : ℕ → Bool) (i : ℕ) → Passed test i → test i ≡ true → Passed test (i + 1)
-passed_next test i p e = record { so_far = λ k h. go k (next k i (omega arith)) }
-  where
-    go : (k : ℕ) → Next k i → test k ≡ true
-    go k (earlier q) = p.so_far k q
-    go k (latest q) = rw q e
-
-pub passed_all : (n : ℕ) (test : ℕ → Bool) (i : ℕ) → Passed test i → n ≤ i → all_below n test ≡ true
-passed_all n test i p h = all_true n test (λ k l. p.so_far k (omega arith))
-
 -- ---- counts
 one : (b : Bool) → cond b 1 0 ≤ 1
 one true = omega arith
@@ -240,16 +223,6 @@ pub record Filled (f : ℕ → ℕ) (begun now : List ℕ) (i : ℕ) : Type 0 wh
   pub long : length now ≡ length begun
   pub written : (k : ℕ) → k < i → get_or now k 0 ≡ f k
   pub kept : (k : ℕ) → i ≤ k → get_or now k 0 ≡ get_or begun k 0
-
-pub filled_begins : (f : ℕ → ℕ) (l : List ℕ) → Filled f l l 0
-filled_begins f l = record { long = refl; written = λ k h. absurd (omega arith); kept = λ k h. refl }
-
-pub filled_next : (f : ℕ → ℕ) (l now : List ℕ) (i v : ℕ) → Filled f l now i → i < length l → v ≡ f i → Filled f l (set now i v) (i + 1)
-filled_next f l now i v d h e = record { long = simp length-set d.long; written = λ k q. at k (next k i (omega arith)); kept = λ k q. get_or-set_other now i k v 0 (omega arith) ∙ d.kept k (omega arith) }
-  where
-    at : (k : ℕ) → Next k i → get_or (set now i v) k 0 ≡ f k
-    at k (earlier q) = get_or-set_other now i k v 0 (omega arith) ∙ d.written k q
-    at k (latest q) = rw q (get_or-set_same now i v 0 (omega (arith, d.long)) ∙ e)
 
 pub filled_all : (f : ℕ → ℕ) (l now : List ℕ) (i : ℕ) → Filled f l now i → length l ≤ i → now ≡ list_below (length l) f
 filled_all f l now i d h = list_below_lem (length l) f now d.long (λ k q. d.written k (omega arith))

@@ -1,7 +1,8 @@
 -- Sums of lists: of a list and another, of a list's front, and after a change of one number. Each by going through the list. Assumes nothing.
-use Prim.Native.Nat.{ℕ, zero, suc, ◌+◌, ◌-◌, ◌≤◌, ◌<◌, ◌^◌}
+use Prim.Native.Nat.{ℕ, zero, suc, ◌+◌, ◌≤◌, ◌<◌, ◌^◌}
 use native.Mathlib.Omega.{arith}
 use native.Mathlib.Numerals.{add-one}
+use Rattle.std.specs.Prelude.{Some, None}
 use mathlib.Core.Bool.{Bool, true, false, cond}
 use mathlib.Core.Path.{◌≡◌, refl, ap, ◌∙◌}
 use mathlib.Core.List.{List, [], ◌∷◌, ◌++◌}
@@ -9,7 +10,6 @@ use borrow.Author.Tests.{lt-ltb, le-ltb, ltb-false}
 use lib.ListN.{length, get_or, set, take}
 use lib.Seq.{take-suc, take_all}
 use Rattle.counting.specs.Sum.{sum_of, exceeds_u64, summed}
-use Rattle.counting.specs.declared.Summed.TheVariants.{Sum, Exceeds}
 
 pub sum_append : (a b : List ℕ) → sum_of (a ++ b) ≡ sum_of a + sum_of b
 unfolding sum_of
@@ -54,25 +54,25 @@ pub fits_u64 : (x : ℕ) → exceeds_u64 x ≡ false → x < 2 ^ 64
 fits_u64 x e = omega (arith, ltb-false 18446744073709551615 x e)
 
 -- ---- what the function of this crate answers
-pub sum_exceeds : (l : List ℕ) (i sum : ℕ) → i < length l → sum ≡ sum_of (take i l) → 18446744073709551615 - sum < get_or l i 0 → Exceeds ≡ summed (sum_of l)
+pub sum_exceeds : (l : List ℕ) (i sum : ℕ) → i < length l → sum ≡ sum_of (take i l) → (sum + get_or l i 0 < 2 ^ 64 → ⊥) → None ≡ summed (sum_of l)
 sum_exceeds l i sum h e q = rw (lt-ltb 18446744073709551615 (sum_of l) (omega (arith, sum_suc l i h, sum_front (i + 1) l)))
 
-pub sum_done : (l : List ℕ) (i sum : ℕ) → length l ≤ i → sum ≡ sum_of (take i l) → sum < 2 ^ 64 → Sum sum ≡ summed (sum_of l)
+pub sum_done : (l : List ℕ) (i sum : ℕ) → length l ≤ i → sum ≡ sum_of (take i l) → sum < 2 ^ 64 → Some sum ≡ summed (sum_of l)
 sum_done l i sum h e q =
     let all : sum ≡ sum_of l = e ∙ sum_all l i h in
     rw (← all, le-ltb 18446744073709551615 sum (omega arith))
 
 -- and what a caller learns from it
-pub exceeds_means : (x : ℕ) → Exceeds ≡ summed x → exceeds_u64 x ≡ true
+pub exceeds_means : (x : ℕ) → None ≡ summed x → exceeds_u64 x ≡ true
 exceeds_means x e = go (exceeds_u64 x) refl e
   where
-    go : (b : Bool) → exceeds_u64 x ≡ b → Exceeds ≡ cond b Exceeds (Sum x) → exceeds_u64 x ≡ true
+    go : (b : Bool) → exceeds_u64 x ≡ b → None ≡ cond b None (Some x) → exceeds_u64 x ≡ true
     go true q u = q
     go false q u = absurd (let z : ◌≡◌ {A = ℕ} 0 1 = cc in omega arith)
 
-pub sum_means : (x k : ℕ) → Sum k ≡ summed x → (exceeds_u64 x ≡ false) × (k ≡ x)
+pub sum_means : (x k : ℕ) → Some k ≡ summed x → (exceeds_u64 x ≡ false) × (k ≡ x)
 sum_means x k e = go (exceeds_u64 x) refl e
   where
-    go : (b : Bool) → exceeds_u64 x ≡ b → Sum k ≡ cond b Exceeds (Sum x) → (exceeds_u64 x ≡ false) × (k ≡ x)
+    go : (b : Bool) → exceeds_u64 x ≡ b → Some k ≡ cond b None (Some x) → (exceeds_u64 x ≡ false) × (k ≡ x)
     go true q u = absurd (let z : ◌≡◌ {A = ℕ} 0 1 = cc in omega arith)
     go false q u = (q, cc)

@@ -1,7 +1,5 @@
 -- The sum of a list, and whether it is a u64.
-use Rattle.std.specs.Prelude.{ℕ, ◌+◌, Bool, cond, List, [], ◌∷◌, ltb}
-use Rattle.counting.specs.declared.Summed.{Summed}
-use Rattle.counting.specs.declared.Summed.TheVariants.{Sum, Exceeds}
+use Rattle.std.specs.Prelude.{ℕ, ◌+◌, Bool, cond, List, [], ◌∷◌, ltb, Option, Some, None}
 
 unfoldable pub sum_of : List ℕ → ℕ
 sum_of [] = 0
@@ -11,5 +9,5 @@ sum_of (x ∷ xs) = x + sum_of xs
 abbrev pub exceeds_u64 : ℕ → Bool
 exceeds_u64 x = ltb 18446744073709551615 x
 
-abbrev pub summed : ℕ → Summed
-summed x = cond (exceeds_u64 x) Exceeds (Sum x)
+abbrev pub summed : ℕ → Option ℕ
+summed x = cond (exceeds_u64 x) None (Some x)

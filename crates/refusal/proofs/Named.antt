@@ -4,22 +4,12 @@ use Prim.Native.Nat.{ℕ, ◌-◌}
 use mathlib.Core.Path.{◌≡◌, refl, sym, ap, ◌∙◌}
 use mathlib.Core.List.{List, [], ◌∷◌}
 use lib.ListN.{get_or}
-use mathlib.Core.Bool.{Bool, true, false}
+use Rattle.std.specs.Prelude.{Result, Ok, Err}
 use Rattle.refusal.specs.Number.{number}
 use Rattle.refusal.specs.Outcome.{Outcome, gave, refused}
-use Rattle.refusal.specs.Answers.{said_tells, counted_tells, weighed_tells, popped_tells, drawn_tells}
+use Rattle.refusal.specs.Answers.{tells}
 use Rattle.refusal.specs.declared.Refusal.{Refusal}
 use Rattle.refusal.specs.declared.Refusal.TheVariants.{InvalidInput, InvalidWeight, InsufficientNonZero, Overflow, ProbabilityTooSmall, ProbabilityTooLarge, BadCount, BadIndex, BadTarget, Full, Empty, OutOfWords, Damaged, BadLength, TooManyTrials, NeedsBtpe, NeedsPoisson}
-use Rattle.refusal.specs.declared.Said.{Said}
-use Rattle.refusal.specs.declared.Said.TheVariants as said
-use Rattle.refusal.specs.declared.Counted.{Counted}
-use Rattle.refusal.specs.declared.Counted.TheVariants as counted
-use Rattle.refusal.specs.declared.Weighed.{Weighed}
-use Rattle.refusal.specs.declared.Weighed.TheVariants as weighed
-use Rattle.refusal.specs.declared.Popped.{Popped}
-use Rattle.refusal.specs.declared.Popped.TheVariants as popped
-use Rattle.refusal.specs.declared.Drawn.{Drawn}
-use Rattle.refusal.specs.declared.Drawn.TheVariants as drawn
 use Rattle.refusal.specs.declared.Drawing.{Drawing}
 
 abbrev table : List Refusal
@@ -56,67 +46,21 @@ pub determined : {A B : Type 0} (tells : A → Outcome B) (back : Outcome B → 
 determined tells back h a b p q = sym (h a) ∙ ap back (p ∙ sym q) ∙ h b
 
 -- ---- the answers
-abbrev said_back : Outcome Bool → Said
-said_back (gave true) = said.Yes
-said_back (gave false) = said.No
-said_back (refused k) = said.Refused (named k)
+abbrev back : {A : Type 0} → Outcome A → Result A Refusal
+back (gave v) = Ok v
+back (refused k) = Err (named k)
 
-said_back_lem : (a : Said) → said_back (said_tells a) ≡ a
-said_back_lem said.Yes = refl
-said_back_lem said.No = refl
-said_back_lem (said.Refused r) = ap said.Refused (named_number r)
+back_lem : {A : Type 0} (a : Result A Refusal) → back (tells a) ≡ a
+back_lem (Ok v) = refl
+back_lem (Err r) = ap Err (named_number r)
 
-pub said_determined : {o : Outcome Bool} (a b : Said) → said_tells a ≡ o → said_tells b ≡ o → a ≡ b
-said_determined = determined said_tells said_back said_back_lem
+pub answer_determined : {A : Type 0} {o : Outcome A} (a b : Result A Refusal) → tells a ≡ o → tells b ≡ o → a ≡ b
+answer_determined = determined tells back back_lem
 
-abbrev counted_back : Outcome ℕ → Counted
-counted_back (gave n) = counted.Count n
-counted_back (refused k) = counted.Refused (named k)
-
-counted_back_lem : (a : Counted) → counted_back (counted_tells a) ≡ a
-counted_back_lem (counted.Count n) = refl
-counted_back_lem (counted.Refused r) = ap counted.Refused (named_number r)
-
-pub counted_determined : {o : Outcome ℕ} (a b : Counted) → counted_tells a ≡ o → counted_tells b ≡ o → a ≡ b
-counted_determined = determined counted_tells counted_back counted_back_lem
-
-abbrev weighed_back : Outcome ℕ → Weighed
-weighed_back (gave w) = weighed.Weight w
-weighed_back (refused k) = weighed.Refused (named k)
-
-weighed_back_lem : (a : Weighed) → weighed_back (weighed_tells a) ≡ a
-weighed_back_lem (weighed.Weight w) = refl
-weighed_back_lem (weighed.Refused r) = ap weighed.Refused (named_number r)
-
-pub weighed_determined : {o : Outcome ℕ} (a b : Weighed) → weighed_tells a ≡ o → weighed_tells b ≡ o → a ≡ b
-weighed_determined = determined weighed_tells weighed_back weighed_back_lem
-
-abbrev popped_back : Outcome (ℕ × ℕ) → Popped
-popped_back (gave (w, n)) = popped.Weight w n
-popped_back (refused k) = popped.Refused (named k)
-
-popped_back_lem : (a : Popped) → popped_back (popped_tells a) ≡ a
-popped_back_lem (popped.Weight w n) = refl
-popped_back_lem (popped.Refused r) = ap popped.Refused (named_number r)
-
-pub popped_determined : {o : Outcome (ℕ × ℕ)} (a b : Popped) → popped_tells a ≡ o → popped_tells b ≡ o → a ≡ b
-popped_determined = determined popped_tells popped_back popped_back_lem
-
-abbrev drawn_back : Outcome ℕ → Drawn
-drawn_back (gave i) = drawn.Index i
-drawn_back (refused k) = drawn.Refused (named k)
-
-drawn_back_lem : (a : Drawn) → drawn_back (drawn_tells a) ≡ a
-drawn_back_lem (drawn.Index i) = refl
-drawn_back_lem (drawn.Refused r) = ap drawn.Refused (named_number r)
-
-pub drawn_determined : {o : Outcome ℕ} (a b : Drawn) → drawn_tells a ≡ o → drawn_tells b ≡ o → a ≡ b
-drawn_determined = determined drawn_tells drawn_back drawn_back_lem
-
-abbrev made : Drawn → ℕ → Drawing
+abbrev made : Result ℕ Refusal → ℕ → Drawing
 made o k = record { outcome = o; words = k }
 
-pub drawing_determined : {o : Outcome ℕ} {k : ℕ} (a b : Drawing) → drawn_tells a.outcome ≡ o → drawn_tells b.outcome ≡ o → a.words ≡ k → b.words ≡ k → a ≡ b
+pub drawing_determined : {o : Outcome ℕ} {k : ℕ} (a b : Drawing) → tells a.outcome ≡ o → tells b.outcome ≡ o → a.words ≡ k → b.words ≡ k → a ≡ b
 drawing_determined a b p q u v =
-    ap (λ (o : Drawn). made o a.words) (drawn_determined a.outcome b.outcome p q)
+    ap (λ (o : Result ℕ Refusal). made o a.words) (answer_determined a.outcome b.outcome p q)
     ∙ ap (made b.outcome) (u ∙ sym v)

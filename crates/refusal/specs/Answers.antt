@@ -1,45 +1,24 @@
 -- What the answers tell: the values, or the number of the refusal. And every answer as three numbers.
-use Rattle.std.specs.Prelude.{ℕ, Bool, true, false, cond, ◌≡◌}
+use Rattle.std.specs.Prelude.{ℕ, Bool, cond, ◌≡◌, Result, Ok, Err}
 use Rattle.refusal.specs.Number.{number}
 use Rattle.refusal.specs.Outcome.{Outcome, gave, refused, consumed}
 use Rattle.refusal.specs.declared.Numbers.{Numbers}
-use Rattle.refusal.specs.declared.Said.{Said}
-use Rattle.refusal.specs.declared.Said.TheVariants as said
-use Rattle.refusal.specs.declared.Counted.{Counted}
-use Rattle.refusal.specs.declared.Counted.TheVariants as counted
-use Rattle.refusal.specs.declared.Weighed.{Weighed}
-use Rattle.refusal.specs.declared.Weighed.TheVariants as weighed
-use Rattle.refusal.specs.declared.Popped.{Popped}
-use Rattle.refusal.specs.declared.Popped.TheVariants as popped
-use Rattle.refusal.specs.declared.Drawn.{Drawn}
-use Rattle.refusal.specs.declared.Drawn.TheVariants as drawn
+use Rattle.refusal.specs.declared.Refusal.{Refusal}
 use Rattle.refusal.specs.declared.Drawing.{Drawing}
 
-abbrev pub said_tells : Said → Outcome Bool
-said_tells said.Yes = gave true
-said_tells said.No = gave false
-said_tells (said.Refused r) = refused (number r)
-
-abbrev pub counted_tells : Counted → Outcome ℕ
-counted_tells (counted.Count n) = gave n
-counted_tells (counted.Refused r) = refused (number r)
-
-abbrev pub weighed_tells : Weighed → Outcome ℕ
-weighed_tells (weighed.Weight w) = gave w
-weighed_tells (weighed.Refused r) = refused (number r)
-
-abbrev pub popped_tells : Popped → Outcome (ℕ × ℕ)
-popped_tells (popped.Weight w n) = gave (w, n)
-popped_tells (popped.Refused r) = refused (number r)
-
-abbrev pub drawn_tells : Drawn → Outcome ℕ
-drawn_tells (drawn.Index i) = gave i
-drawn_tells (drawn.Refused r) = refused (number r)
+abbrev pub tells : {A : Type 0} → Result A Refusal → Outcome A
+tells (Ok v) = gave v
+tells (Err r) = refused (number r)
 
 -- a draw that ended with an outcome after it had used some words
-pub record Ended (o : Drawn) (used : ℕ) (d : Drawing) : Type 0 where
+pub record Ended (o : Result ℕ Refusal) (used : ℕ) (d : Drawing) : Type 0 where
   pub same : d.outcome ≡ o
-  pub words : d.words ≡ consumed (drawn_tells o) used
+  pub words : d.words ≡ consumed (tells o) used
+
+-- a draw that gave an index and took some words, or was refused and consumes none
+abbrev pub drawing : Result (ℕ × ℕ) Refusal → Drawing
+drawing (Ok (index, words)) = record { outcome = Ok index; words = words }
+drawing (Err r) = record { outcome = Err r; words = 0 }
 
 -- ---- three numbers
 abbrev pub given : ℕ → ℕ → Numbers
@@ -64,5 +43,5 @@ yes_no b = alone (cond b 1 0)
 -- a draw tells its words beside the index, and beside a refusal too
 abbrev pub drawing_numbers : Drawing → Numbers
 drawing_numbers d =
-    let told = in_numbers alone (drawn_tells d.outcome) in
+    let told = in_numbers alone (tells d.outcome) in
     record { number = told.number; first = told.first; second = d.words }

@@ -1,14 +1,14 @@
-// Why a call is refused, and the answers of the calls: each is what a call gives, or a refusal.
+// Why a call is refused, and the answers of the calls as numbers: each call gives a value, or a refusal.
 #![tactic(auto)]
 
-ghost use Rattle.std.specs.Prelude.{◌≡◌};
+ghost use Rattle.std.specs.Prelude.{◌≡◌, ℕ};
 ghost use Rattle.refusal.specs.Number.{number};
 ghost use Rattle.refusal.specs.Answers as answers;
 
-// The refusals in the order of their numbers, 1 to 17.
-#[derive(Clone, Copy)]
+// The refusals by their numbers, 1 to 17.
+#[derive(Clone, Copy, Debug, PartialEq, Eq)]
 pub enum Refusal {
-    InvalidInput,
+    InvalidInput = 1,
     InvalidWeight,
     InsufficientNonZero,
     Overflow,
@@ -31,30 +31,12 @@ impl Refusal {
     pub fn number(self) -> u64
         ensures { result ≡ number self }
     {
-        match self {
-            Refusal::InvalidInput => 1,
-            Refusal::InvalidWeight => 2,
-            Refusal::InsufficientNonZero => 3,
-            Refusal::Overflow => 4,
-            Refusal::ProbabilityTooSmall => 5,
-            Refusal::ProbabilityTooLarge => 6,
-            Refusal::BadCount => 7,
-            Refusal::BadIndex => 8,
-            Refusal::BadTarget => 9,
-            Refusal::Full => 10,
-            Refusal::Empty => 11,
-            Refusal::OutOfWords => 12,
-            Refusal::Damaged => 13,
-            Refusal::BadLength => 14,
-            Refusal::TooManyTrials => 15,
-            Refusal::NeedsBtpe => 16,
-            Refusal::NeedsPoisson => 17,
-        }
+        self as u64
     }
 }
 
 // An answer as three numbers: 0 and the values that were given, or the refusal's number and two zeros.
-#[derive(Clone, Copy)]
+#[derive(Clone, Copy, Debug, PartialEq, Eq)]
 pub struct Numbers {
     pub number: u64,
     pub first: u64,
@@ -83,129 +65,102 @@ impl Numbers {
     }
 }
 
-// The answer to a question.
-#[derive(Clone, Copy)]
-pub enum Said {
-    Yes,
-    No,
-    Refused(Refusal),
+// What a call gives, as the two values that stand for it.
+pub trait Values {
+    ghost values: { Self → ℕ × ℕ };
+
+    fn values(self) -> (u64, u64)
+        ensures { result ≡ values self };
 }
 
-impl Said {
-    pub fn numbers(self) -> Numbers
-        ensures { result ≡ answers.in_numbers answers.yes_no (answers.said_tells self) }
-    {
-        match self {
-            Said::Yes => Numbers::given(1, 0),
-            Said::No => Numbers::given(0, 0),
-            Said::Refused(r) => Numbers::refused(r),
-        }
+// 1 for yes, 0 for no.
+impl Values for bool {
+    ghost values = { answers.yes_no };
+
+    fn values(self) -> (u64, u64) {
+        (u64::from(self), 0)
     }
 }
 
-// A count: of a tree's slots after the call, or of the weights that a call wrote.
-#[derive(Clone, Copy)]
-pub enum Counted {
-    Count(usize),
-    Refused(Refusal),
-}
+// A count, or an index.
+impl Values for usize {
+    ghost values = { answers.alone };
 
-impl Counted {
-    pub fn numbers(self) -> Numbers
-        ensures { result ≡ answers.in_numbers answers.alone (answers.counted_tells self) }
-    {
-        match self {
-            Counted::Count(n) => Numbers::given(n as u64, 0),
-            Counted::Refused(r) => Numbers::refused(r),
-        }
+    fn values(self) -> (u64, u64) {
+        (self as u64, 0)
     }
 }
 
-// A weight: a slot's, or the sum of a table's.
-#[derive(Clone, Copy)]
-pub enum Weighed {
-    Weight(u64),
-    Refused(Refusal),
-}
+// A weight.
+impl Values for u64 {
+    ghost values = { answers.alone };
 
-impl Weighed {
-    pub fn numbers(self) -> Numbers
-        ensures { result ≡ answers.in_numbers answers.alone (answers.weighed_tells self) }
-    {
-        match self {
-            Weighed::Weight(w) => Numbers::given(w, 0),
-            Weighed::Refused(r) => Numbers::refused(r),
-        }
+    fn values(self) -> (u64, u64) {
+        (self, 0)
     }
 }
 
-// The weight that was popped, and the count that the tree then has.
-#[derive(Clone, Copy)]
-pub enum Popped {
-    Weight(u64, usize),
-    Refused(Refusal),
-}
+// A number with a count or a place beside it.
+impl Values for (u64, usize) {
+    ghost values = { λ v. v };
 
-impl Popped {
-    pub fn numbers(self) -> Numbers
-        ensures { result ≡ answers.in_numbers (λ v. v) (answers.popped_tells self) }
-    {
-        match self {
-            Popped::Weight(w, n) => Numbers::given(w, n as u64),
-            Popped::Refused(r) => Numbers::refused(r),
-        }
+    fn values(self) -> (u64, u64) {
+        (self.0, self.1 as u64)
     }
 }
 
-// The index that a target or a pair draws.
-#[derive(Clone, Copy)]
-pub enum Drawn {
-    Index(usize),
-    Refused(Refusal),
-}
+impl<T: Values> From<Result<T, Refusal>> for Numbers {
+    ghost from_gives = { λ answer told. told ≡ answers.in_numbers T.values (answers.tells answer) };
 
-impl Drawn {
-    pub fn numbers(self) -> Numbers
-        ensures { result ≡ answers.in_numbers answers.alone (answers.drawn_tells self) }
-    {
-        match self {
-            Drawn::Index(i) => Numbers::given(i as u64, 0),
-            Drawn::Refused(r) => Numbers::refused(r),
+    fn from(answer: Result<T, Refusal>) -> Numbers {
+        match answer {
+            Ok(value) => {
+                let (first, second) = value.values();
+                Numbers::given(first, second)
+            }
+            Err(r) => Numbers::refused(r),
         }
     }
 }
 
 // A draw from a pool, with the words that it consumed.
-#[derive(Clone, Copy)]
+#[derive(Clone, Copy, Debug, PartialEq, Eq)]
 pub struct Drawing {
-    pub outcome: Drawn,
+    pub outcome: Result<usize, Refusal>,
     pub words: usize,
 }
 
 impl Drawing {
     // A draw that ended so after it had used some words: where it is refused it consumes none.
-    pub fn new(outcome: Drawn, used: usize) -> Drawing
+    pub fn new(outcome: Result<usize, Refusal>, used: usize) -> Drawing
         ensures { answers.Ended outcome used result }
     {
-        match outcome {
-            Drawn::Index(_) => Drawing {
-                outcome,
-                words: used,
-            },
-            Drawn::Refused(_) => Drawing { outcome, words: 0 },
+        let words = if outcome.is_ok() { used } else { 0 };
+        Drawing { outcome, words }
+    }
+}
+
+// A draw that gave an index and took so many words, or was refused.
+impl From<Result<(usize, usize), Refusal>> for Drawing {
+    ghost from_gives = { λ drawn d. d ≡ answers.drawing drawn };
+
+    fn from(drawn: Result<(usize, usize), Refusal>) -> Drawing {
+        match drawn {
+            Ok((index, words)) => Drawing::new(Ok(index), words),
+            Err(r) => Drawing::new(Err(r), 0),
         }
     }
+}
 
-    // The second value is the words consumed.
-    pub fn numbers(self) -> Numbers
-        ensures { result ≡ answers.drawing_numbers self }
-    {
-        let outcome = self.outcome;
-        let told = outcome.numbers();
+// The second value is the words consumed.
+impl From<Drawing> for Numbers {
+    ghost from_gives = { λ d told. told ≡ answers.drawing_numbers d };
+
+    fn from(drawing: Drawing) -> Numbers {
+        let told = Numbers::from(drawing.outcome);
         Numbers {
-            number: told.number,
-            first: told.first,
-            second: self.words as u64,
+            second: drawing.words as u64,
+            ..told
         }
     }
 }

@@ -1,25 +1,30 @@
 -- The first word that passes a test. How the search goes a word at a time; and what its place means: no word before it passes, the word at it does,
 -- and there is none exactly when no word passes. By going through the pool. Assumes nothing.
-use Rattle.std.proofs.Common.{◌≡◌, ℕ, zero, suc, ◌+◌, ◌-◌, ◌<◌, ◌≤◌, Bool, true, false, cond, ltb, ◌⊎◌, ◌↔◌, List, [], ◌∷◌, length, get_or, drop, sym, refl, ap, ◌∙◌, inl, inr, add-one, arith, drop_of_length-le, drop-cons, ltb-false, ltb-true}
+use Rattle.std.proofs.Common.{◌≡◌, ℕ, zero, suc, ◌+◌, ◌-◌, ◌<◌, ◌≤◌, Bool, true, false, cond, ltb, ◌⊎◌, ◌↔◌, List, [], ◌∷◌, length, get_or, sym, refl, ap, ◌∙◌, inl, inr, arith, ltb-false, ltb-true}
+use Rattle.std.specs.Prelude.{Option, Some, None, position}
+use Rattle.std.specs.List.{position_from}
+use Rattle.std.proofs.lemmas.Iterator.Adapters.{position_from-zero}
 use Rattle.words.specs.First.{first_from, first}
 
+-- the place behind so many words
+abbrev pub place_of : Option ℕ → ℕ
+place_of None = 0
+place_of (Some skipped) = skipped + 1
+
 module _ (test : ℕ → Bool) where
-  -- ---- the search, a word at a time
-  pub first_begins : (pool : List ℕ) → first_from test 0 pool ≡ first_from test 0 (drop 0 pool)
-  first_begins [] = refl
-  first_begins (w ∷ ws) = refl
+  -- ---- the library's search, which counts the words that it skips, by a test that passes the same words
+  module _ (by : ℕ → Bool) (same : (w : ℕ) → by w ≡ test w) where
+    after : (pool : List ℕ) (k : ℕ) → first_from test k pool ≡ place_of (position_from by k pool)
+    unfolding first_from
+    after [] k = refl
+    after (w ∷ ws) k = rw (same w) (go (test w) (after ws (k + 1)))
+      where
+        go : (b : Bool) → first_from test (k + 1) ws ≡ place_of (position_from by (k + 1) ws) → cond b (k + 1) (first_from test (k + 1) ws) ≡ place_of (cond b (Some k) (position_from by (k + 1) ws))
+        go true e = refl
+        go false e = e
 
-  pub first_here : (pool : List ℕ) (i : ℕ) → i < length pool → test (get_or pool i 0) ≡ true → first_from test i (drop i pool) ≡ i + 1
-  unfolding first_from
-  first_here pool i h e = rw (drop-cons pool i 0 h, e)
-
-  pub first_later : (pool : List ℕ) (i : ℕ) → i < length pool → test (get_or pool i 0) ≡ false → first_from test i (drop i pool) ≡ first_from test (i + 1) (drop (i + 1) pool)
-  unfolding first_from
-  first_later pool i h e = rw (drop-cons pool i 0 h, e) (ap (λ (x : ℕ). first_from test (i + 1) (drop x pool)) (sym (add-one i)))
-
-  pub first_ends : (pool : List ℕ) (i : ℕ) → length pool ≤ i → first_from test i (drop i pool) ≡ 0
-  unfolding first_from
-  first_ends pool i h = rw (drop_of_length-le pool h)
+    pub first_by_position : (pool : List ℕ) → first test pool ≡ place_of (position by pool)
+    first_by_position pool = after pool 0 ∙ ap place_of (sym (position_from-zero by pool))
 
   -- ---- what the place means
   abbrev pub NonePasses : List ℕ → Type 0

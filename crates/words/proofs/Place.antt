@@ -1,35 +1,23 @@
 -- The first accepted word: which words are accepted, and what the place of the first says of the pool and of the target. From the laws of the first
 -- word that passes a test. Assumes nothing.
-use Rattle.std.proofs.Common.{◌≡◌, ℕ, zero, suc, ◌+◌, ◌-◌, ◌%◌, ◌^◌, ◌<◌, ◌≤◌, Bool, true, false, cond, eqb, ltb, List, length, get_or, sym, refl, ap, ◌∙◌, mod-lt, arith, lt-ltb, eq-eqb, ne_eqb, eqb-true}
-use native.Mathlib.Nat.{add-mod_right}
+use Rattle.std.proofs.Common.{◌≡◌, ℕ, zero, suc, ◌+◌, ◌-◌, ◌%◌, ◌^◌, ◌<◌, ◌≤◌, Bool, true, false, cond, eqb, ltb, List, length, get_or, sym, refl, ap, ◌∙◌, mod-lt, arith, lt-ltb, eq-eqb, ne_eqb}
 use borrow.Author.Tests.{eqb-false}
 use Rattle.refusal.specs.Outcome.{Outcome, gave, refused}
-use Rattle.refusal.proofs.Order.{refuses, given_not_refused, given_same}
+use Rattle.refusal.proofs.Order.{given_not_refused, given_same}
 use Rattle.words.specs.Below as below
 use Rattle.words.specs.Below.{accepts, place, target, rule}
-use Rattle.words.specs.declared.Taken.TheVariants.{Target, Nothing}
-use Rattle.words.proofs.First.{is_first, first_in, no_first}
-
--- ---- 2^64 modulo T
--- a number above 0 taken from zero
-pub from_zero : (x r : ℕ) → x < 2 ^ 64 → r < 2 ^ 64 → (r + x) % 2 ^ 64 ≡ 0 → (x ≡ 0 → ⊥) → r ≡ 2 ^ 64 - x
-from_zero x r h q e k = omega arith
-
--- T taken from zero, modulo T
-pub spill_is : (T r : ℕ) → T < 2 ^ 64 → r < 2 ^ 64 → (r + T) % 2 ^ 64 ≡ 0 → 0 < T → r % T ≡ 2 ^ 64 % T
-spill_is T r h q e k =
-    let less : r ≡ 2 ^ 64 - T = from_zero T r h q e (omega arith) in
-    let all : r + T ≡ 2 ^ 64 = omega arith in
-    sym (add-mod_right r T) ∙ ap (λ (x : ℕ). x % T) all
+use Rattle.std.specs.Prelude.{Option, Ok, Err, position}
+use Rattle.refusal.specs.declared.Refusal.TheVariants.{OutOfWords}
+use Rattle.words.proofs.First.{place_of, first_by_position, is_first, first_in, no_first}
 
 -- ---- which words are accepted
 pub accepts_yes : (T w : ℕ) → 0 < T → w < 2 ^ 64 - 2 ^ 64 % T → accepts T w ≡ true
 unfolding accepts
 accepts_yes T w h k = rw (lt-ltb 0 T h, lt-ltb w (2 ^ 64 - 2 ^ 64 % T) k)
 
-pub accepts_as : (T w spilled : ℕ) (b : Bool) → 0 < T → spilled ≡ 2 ^ 64 % T → b ≡ ltb w (2 ^ 64 - spilled) → accepts T w ≡ b
+pub accepts_as : (T w spilled : ℕ) → 0 < T → spilled ≡ 2 ^ 64 % T → accepts T w ≡ ltb w (2 ^ 64 - spilled)
 unfolding accepts
-accepts_as T w spilled b h e q = rw (lt-ltb 0 T h, q, e)
+accepts_as T w spilled h e = rw (lt-ltb 0 T h, e)
 
 -- below no total there is nothing
 pub accepts_none : (w : ℕ) → accepts 0 w ≡ false
@@ -64,22 +52,23 @@ module _ (T : ℕ) (pool : List ℕ) where
   target_below h = mod-lt _ (accepts_some T _ (place_at h))
 
   -- ---- what the function of this crate promises, by where its search ended
-  pub nothing : place T pool ≡ 0 → below.Promise pool T Nothing
+  pub searched : (o : Option ℕ) (spilled : ℕ) → (T ≡ 0 → ⊥) → spilled ≡ 2 ^ 64 % T → o ≡ position (λ w. ltb w (2 ^ 64 - spilled)) pool → place T pool ≡ place_of o
+  searched o spilled h e q =
+      first_by_position (accepts T) (λ w. ltb w (2 ^ 64 - spilled)) (λ w. sym (accepts_as T w spilled (omega arith) e)) pool
+      ∙ ap place_of (sym q)
+
+  pub nothing : place T pool ≡ 0 → below.Promise pool T (Err OutOfWords)
   unfolding rule
   nothing e = record { answer = rw (eq-eqb (place T pool) 0 e) }
 
-  pub taken_at : (i : ℕ) → place T pool ≡ i + 1 → below.Promise pool T (Target (get_or pool i 0 % T) (i + 1))
+  pub taken_at : (i : ℕ) → place T pool ≡ i + 1 → below.Promise pool T (Ok (get_or pool i 0 % T, i + 1))
   unfolding rule
   taken_at i e =
       let one : i + 1 - 1 ≡ i = omega arith in
       record { answer = rw (e, ne_eqb (i + 1) 0 (omega arith), one) }
 
   -- and what a caller learns from it
-  pub nothing_means : below.Promise pool T Nothing → place T pool ≡ 0
-  unfolding rule
-  nothing_means p = eqb-true _ _ ((refuses (below.refusals T pool) (target T pool, place T pool) 12 refl).0 (sym p.answer))
-
-  pub taken_means : (t k : ℕ) → below.Promise pool T (Target t k) → (place T pool ≡ k) × (target T pool ≡ t) × (k ≡ 0 → ⊥)
+  pub taken_means : (t k : ℕ) → below.Promise pool T (Ok (t, k)) → (place T pool ≡ k) × (target T pool ≡ t) × (k ≡ 0 → ⊥)
   unfolding rule
   taken_means t k p = go (eqb (place T pool) 0) refl p.answer
     where

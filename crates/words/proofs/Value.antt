@@ -5,12 +5,11 @@ use Rattle.std.proofs.Common.{◌≡◌, ℕ, zero, suc, ◌+◌, ◌-◌, ◌*�
 use native.Mathlib.Nat.{mul-sub, eq_of_mul-eq-mul_right}
 use lib.Dec.{nleb→lt, not_T}
 use lib.Count.{count_trailing_zeros}
-use lib.Ieee.{Float, nan, inf, fin, Format, binary64, prec, emax, low, top, hid, up, down, minus, size, odd, round, sum, sub, div, fits, to_bits, of_bits, of_fields, ne, is_nan, nan_bits}
+use lib.Ieee.{Float, nan, inf, fin, Format, binary64, prec, emax, low, top, hid, up, down, minus, size, odd, round, sum, sub, fits, to_bits, of_bits, of_fields, is_nan, nan_bits}
 use lib.Ieee.Digits.{back}
 use lib.Ieee.Exact.{HasValue, odd_sign, round_exact}
 use lib.Ieee.Fits.{odd-fits, round-fits, down_pos}
 use lib.Ieee.Bits.{of_bits-to_bits, nan_bits_above, nan_bits_is, is_false, cond_no}
-use lib.Ieee.Compare.{differs_from_itself, nan_differs}
 use lib.Ieee.Nearest.{div_same}
 use lib.Ieee.Scale.{round_same}
 use Rattle.words.specs.Floats.{Exact, over}
@@ -204,27 +203,8 @@ no_nan_bits b h =
     subst (λ (z : Bool). T (not z)) (sym (nan_bits_above binary64 b ∙ low)) tt
 
 -- ---- a NaN and its bits
--- the NaN, and nothing else, differs from itself
-pub differs_is_nan : (x : Float) → ne x x ≡ is_nan x
-unfolding is_nan
-differs_is_nan nan = nan_differs
-differs_is_nan (inf s) = go (ne (inf s) (inf s)) (differs_from_itself (inf s))
-  where
-    go : (t : Bool) → (T t → inf s ≡ nan) → t ≡ false
-    go true f = let e = f tt in absurd (let z : ◌≡◌ {A = ℕ} 0 1 = cc in omega arith)
-    go false f = refl
-differs_is_nan (fin s m e) = go (ne (fin s m e) (fin s m e)) (differs_from_itself (fin s m e))
-  where
-    go : (t : Bool) → (T t → fin s m e ≡ nan) → t ≡ false
-    go true f = let e = f tt in absurd (let z : ◌≡◌ {A = ℕ} 0 1 = cc in omega arith)
-    go false f = refl
-
-pub no_nan : (x : Float) → ne x x ≡ false → T (not (is_nan x))
-no_nan x e = subst (λ (t : Bool). T (not t)) (sym (sym (differs_is_nan x) ∙ e)) tt
-
-pub bits_of_nan : (x : Float) → ne x x ≡ true → 0x7ff8_0000_0000_0000 ≡ to_bits binary64 x
-unfolding to_bits
-bits_of_nan x e = ap (to_bits binary64) (sym (differs_from_itself x (subst T (sym e) tt)))
+pub no_nan : (x : Float) → is_nan x ≡ false → T (not (is_nan x))
+no_nan x e = rw e tt
 
 only_nan : (x : Float) → is_nan x ≡ true → x ≡ nan
 unfolding is_nan
@@ -235,6 +215,10 @@ only_nan (fin s m d) e = absurd (true≢false (sym e))
 pub nan_of_bits : (b : ℕ) → 0x7ff0_0000_0000_0000 < b % 2 ^ 63 → of_bits binary64 b ≡ nan
 nan_of_bits b h = only_nan (of_bits binary64 b) (sym (nan_bits_is binary64 b) ∙ nan_bits_above binary64 b ∙ lt-ltb 0x7ff0_0000_0000_0000 (b % 2 ^ 63) h)
 
-pub zero_by_zero : div binary64 (of_bits binary64 0) (of_bits binary64 0) ≡ nan
-unfolding div of_bits
-zero_by_zero = refl
+pub bits_of_nan : (x : Float) → is_nan x ≡ true → 0x7ff8_0000_0000_0000 ≡ to_bits binary64 x
+unfolding to_bits
+bits_of_nan x e = ap (to_bits binary64) (sym (only_nan x e))
+
+pub the_nan : of_bits binary64 0x7ff8_0000_0000_0000 ≡ nan
+unfolding of_bits
+the_nan = refl

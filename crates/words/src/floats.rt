@@ -38,10 +38,10 @@ pub fn one_sided_u(word: u64) -> f64
 pub fn bits_of(x: f64) -> u64
     ensures { result ≡ to_bits binary64 x }
 {
-    if x != x {
+    if x.is_nan() {
         return 0x7ff8_0000_0000_0000;
     }
-    f64::to_bits(x)
+    x.to_bits()
 }
 
 // The float of any bits, a NaN's too.
@@ -49,7 +49,7 @@ pub fn float_of(bits: u64) -> f64
     ensures { result ≡ from_bits binary64 bits }
 {
     if INFINITY < bits % 0x8000_0000_0000_0000 {
-        return 0.0 / 0.0;
+        return f64::NAN;
     }
     f64::from_bits(bits)
 }
