@@ -1,6 +1,6 @@
 -- Reading cells: below and beyond the count, whether a cell is sound, and what a count that is not refused means. Assumes nothing.
-use Rattle.std.proofs.Common.{ℕ, ◌+◌, ◌*◌, ◌-◌, ◌≤◌, ◌<◌, ◌^◌, arith, Bool, true, false, ◌||◌, ◌≡◌, refl, sym, ◌∙◌, lt-ltb, le-ltb, le-leb, leb-true, leb-false, ltb-true, ltb-false, leb, ltb, length, get_or}
-use Rattle.std.proofs.lemmas.Bool.{lt-leb, eqb-false}
+use Rattle.std.proofs.Common.{ℕ, ◌+◌, ◌*◌, ◌≤◌, ◌<◌, ◌^◌, arith, Bool, true, false, ◌≡◌, refl, lt-ltb, le-ltb, le-leb, leb-true, ltb-true, ltb-false, ltb, length, get_or}
+use Rattle.std.proofs.lemmas.Bool.{eqb-false, or_parts}
 use Rattle.weighted_tree.specs.Store.{Store, cell_at, children_at, sound_at, weight_at}
 use Rattle.weighted_tree.specs.Step.{covers}
 use Rattle.weighted_tree.specs.Tests.{bad_count, full}
@@ -31,14 +31,6 @@ cell_fits s n i h = go (ltb i n) refl
     go false e = omega (arith, cell_out s n i (ltb-false i n e))
 
 -- ---- soundness
--- the test of a sum in steps that do not wrap
-pub leb_sub : (l r a : ℕ) → l ≤ a → leb r (a - l) ≡ leb (l + r) a
-leb_sub l r a h = go (leb r (a - l)) refl
-  where
-    go : (b : Bool) → leb r (a - l) ≡ b → leb r (a - l) ≡ leb (l + r) a
-    go true e = e ∙ sym (le-leb (l + r) a (omega (arith, leb-true r (a - l) e)))
-    go false e = e ∙ sym (lt-leb (l + r) a (omega (arith, leb-false r (a - l) e)))
-
 pub sound_is : (s : Store) (n i : ℕ) → sound_at s n i ≡ covers (cell_at s n i) (cell_at s n (2 * i + 1)) (cell_at s n (2 * i + 2))
 unfolding sound_at children_at
 sound_is s n i = refl
@@ -64,13 +56,9 @@ pub weight_beyond : (s : Store) (n i : ℕ) → n ≤ i → weight_at s n i ≡ 
 weight_beyond s n i h = omega (arith, weight_le s n i, cell_out s n i h)
 
 -- ---- counts
-or_false : (a b : Bool) → (a || b) ≡ false → (a ≡ false) × (b ≡ false)
-or_false true b e = let z : ◌≡◌ {A = Bool} true false = e in (z, cc)
-or_false false b e = (refl, e)
-
 pub good_count : (s : Store) (n : ℕ) → bad_count s n ≡ false → (n ≤ 4096) × (n ≤ length s)
 unfolding bad_count
-good_count s n e = let h = or_false _ _ e in (ltb-false _ _ h.0, ltb-false _ _ h.1)
+good_count s n e = let h = or_parts _ _ e in (ltb-false _ _ h.0, ltb-false _ _ h.1)
 
 pub count_good : (s : Store) (n : ℕ) → n ≤ 4096 → n ≤ length s → bad_count s n ≡ false
 unfolding bad_count
@@ -79,7 +67,7 @@ count_good s n h k = rw (le-ltb 4096 n h, le-ltb (length s) n k)
 pub has_room : (s : Store) (n : ℕ) → bad_count s n ≡ false → full s n ≡ false → (n < 4096) × (n < length s)
 unfolding full
 has_room s n g e =
-    let h = or_false _ _ e in
+    let h = or_parts _ _ e in
     let c = good_count s n g in
     (below c.0 (eqb-false _ _ h.0), below c.1 (eqb-false _ _ h.1))
   where

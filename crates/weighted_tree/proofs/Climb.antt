@@ -1,9 +1,9 @@
 -- The way from a cell up to cell 0. The parents end at cell 0 by their own rule, whatever bound the definition has; what is tested and
 -- changed along them goes a parent at a time; and along sound parents the cells only grow, so that each lies between the first cell and the
 -- total. By recursion up the way. Assumes nothing.
-use Rattle.std.proofs.Common.{ℕ, zero, suc, ◌+◌, ◌*◌, ◌-◌, ◌/◌, ◌≤◌, ◌<◌, arith, Bool, true, false, ◌&&◌, ◌≡◌, refl, ap, ◌∙◌, List, [], ◌∷◌, ◌⊎◌, inl, inr, get_or, set, get_or-set_other}
+use Rattle.std.proofs.Common.{ℕ, sym, zero, suc, ◌+◌, ◌*◌, ◌-◌, ◌/◌, ◌≤◌, ◌<◌, arith, Bool, true, false, ◌&&◌, ◌≡◌, refl, ap, ◌∙◌, List, [], ◌∷◌, ◌⊎◌, inl, inr, length, get_or, set, length-set, get_or-set_other}
 use Rattle.weighted_tree.specs.Store.{Store, cell_at, sound_at}
-use Rattle.weighted_tree.specs.Path.{parents_in, parents, path_of, indexes_below, sound_all, change_all, Each}
+use Rattle.weighted_tree.specs.Path.{parents_in, parents, path_of, sound_all, change_all, Each, CanChange}
 use Rattle.weighted_tree.specs.Tests.{damaged}
 use Rattle.weighted_tree.proofs.Cells.{cell_in, sound_le}
 
@@ -30,6 +30,27 @@ parents_top (suc i) h = absurd (omega arith)
 pub parents_up : (i : ℕ) → 0 < i → parents i ≡ (i - 1) / 2 ∷ parents ((i - 1) / 2)
 parents_up zero h = absurd (omega arith)
 parents_up (suc i) h = let e : suc i - 1 ≡ i = omega arith in rw e (parents_suc i)
+
+pub parents_from : (i k : ℕ) → 0 < i → k ≡ i - 1 → parents i ≡ k / 2 ∷ parents (k / 2)
+parents_from i k h e = rw e (parents_up i h)
+
+near : (p j : ℕ) → parents p ≡ parents j → j ≤ p + 1
+near p zero e = omega arith
+near zero (suc m) e =
+    let z : [] ≡ m / 2 ∷ parents (m / 2) = sym (parents_top 0 (omega arith)) ∙ e ∙ parents_suc m in absurd (cc)
+near (suc q) (suc m) e =
+    let z : q / 2 ∷ parents (q / 2) ≡ m / 2 ∷ parents (m / 2) = sym (parents_suc q) ∙ e ∙ parents_suc m in
+    let h : q / 2 ≡ m / 2 = cc in
+    omega arith
+
+-- what a step of the way up, from i to x, leaves to do
+pub climbs : (i x j : ℕ) → parents i ≡ x ∷ parents j → (0 < i) × (x ≡ (i - 1) / 2) × (parents j ≡ parents x) × (j ≤ i)
+climbs zero x j e = let z : [] ≡ x ∷ parents j = sym (parents_top 0 (omega arith)) ∙ e in absurd (cc)
+climbs (suc k) x j e =
+    let z : k / 2 ∷ parents (k / 2) ≡ x ∷ parents j = sym (parents_suc k) ∙ e in
+    let h : k / 2 ≡ x = cc in
+    let t : parents (k / 2) ≡ parents j = cc in
+    (omega arith, omega arith, sym t ∙ ap parents h, omega (arith, near (k / 2) j t))
 
 -- the way up with no bound: at cell 0 it ends, from any other cell it goes on from the parent
 pub data Climb : ℕ → Type 0 where
@@ -85,29 +106,8 @@ pub damaged_yes : (s : Store) (n : ℕ) (path : List ℕ) → sound_all s n path
 unfolding damaged
 damaged_yes s n path e = rw e
 
-pub below_next : (i : ℕ) → 0 < i → indexes_below i ≡ (i - 1) ∷ indexes_below (i - 1)
-below_next zero h = absurd (omega arith)
-below_next (suc i) h = let e : suc i - 1 ≡ i = omega arith in rw e
-
-pub below_none : (i : ℕ) → i ≤ 0 → indexes_below i ≡ []
-below_none zero h = refl
-below_none (suc i) h = absurd (omega arith)
-
--- ---- the change of a path, a cell at a time
-pub change_top : (s : Store) (rise fall i : ℕ) → i ≤ 0 → change_all s rise fall (parents i) ≡ s
-unfolding change_all
-change_top s rise fall i h = rw (parents_top i h)
-
-pub change_up : (s : Store) (rise fall i : ℕ) → 0 < i → change_all s rise fall (parents i) ≡ change_all (set s ((i - 1) / 2) (get_or s ((i - 1) / 2) 0 + rise - fall)) rise fall (parents ((i - 1) / 2))
-unfolding change_all
-change_up s rise fall i h = rw (parents_up i h)
-
 -- ---- a property of each cell of a path
 module _ (P : ℕ → Type 0) (s : Store) where
-  pub each_here : (i : ℕ) → 0 < i → Each P s (parents i) → P (get_or s ((i - 1) / 2) 0)
-  unfolding Each
-  each_here i h r = (rw (parents_up i h) at r).0
-
   -- a cell that is no parent of i may change
   pub each_set : (k v : ℕ) {i : ℕ} → Climb i → i ≤ k → Each P s (parents i) → Each P (set s k v) (parents i)
   unfolding Each
@@ -117,9 +117,38 @@ module _ (P : ℕ → Type 0) (s : Store) where
       rw (parents_suc i)
       (rw (get_or-set_other s k (i / 2) v 0 (omega arith)) (all.0, each_set k v way (omega arith) all.1))
 
-  pub each_up : (i v : ℕ) → 0 < i → Each P s (parents i) → Each P (set s ((i - 1) / 2) v) (parents ((i - 1) / 2))
-  unfolding Each
-  each_up i v h r = each_set ((i - 1) / 2) v (climb ((i - 1) / 2)) (omega arith) (rw (parents_up i h) at r).1
+-- ---- a change of the parents of a cell under way: it comes to the same as changing those of cell i from now, each of which can change
+pub record Changing (rise fall cell : ℕ) (before s : Store) (i : ℕ) : Type 0 where
+  pub inside : i ≤ length s
+  pub can : Each (CanChange rise fall) s (parents i)
+  pub same : change_all before rise fall (parents cell) ≡ change_all s rise fall (parents i)
+
+module _ (rise fall cell : ℕ) (before s : Store) (i : ℕ) (w : Changing rise fall cell before s i) where
+  pub change_end : parents i ≡ [] → s ≡ change_all before rise fall (parents cell)
+  unfolding change_all
+  change_end e = let same = w.same in sym (rw e at same)
+
+  module _ (x j : ℕ) (e : parents i ≡ x ∷ parents j) where
+    pub change_room : x < length s
+    change_room = let up = climbs i x j e in omega (arith, w.inside)
+
+    pub change_can : CanChange rise fall (get_or s x 0)
+    unfolding Each
+    change_can = let can = w.can in (rw e at can).0
+
+    -- what was changed is no parent of what is left
+    pub change_more : Changing rise fall cell before (set s x (get_or s x 0 + rise - fall)) j
+    unfolding Each change_all
+    change_more =
+        let up = climbs i x j e in
+        let can = w.can in
+        let same = w.same in
+        let rest : Each (CanChange rise fall) s (parents x) = rw up.2 at (rw e at can).1 in
+        record {
+          inside = simp length-set (omega (arith, w.inside));
+          can = rw up.2 (each_set (CanChange rise fall) s x _ (climb x) (omega arith) rest);
+          same = rw e at same;
+        }
 
 -- ---- along sound parents the cells only grow
 pub parity : (i : ℕ) → (i ≡ 2 * (i / 2)) ⊎ (i ≡ 2 * (i / 2) + 1)

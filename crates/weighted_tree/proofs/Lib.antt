@@ -4,3 +4,5 @@ pub mod Climb
 pub mod Steps
 pub mod Gathers
 pub mod Promised
+pub mod Through
+pub mod Chains

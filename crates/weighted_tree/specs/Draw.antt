@@ -1,7 +1,7 @@
 -- The draw from words: the slot that a pool draws, and the words it consumes.
 use Rattle.std.specs.Prelude.{ℕ, Bool, ◌≡◌, List, [], ◌∷◌, eqb}
 use Rattle.refusal.specs.Outcome.{Outcome, gave, in_order, consumed}
-use Rattle.refusal.specs.Answers.{drawn_tells}
+use Rattle.refusal.specs.Answers.{tells}
 use Rattle.refusal.specs.declared.Drawing.{Drawing}
 use Rattle.words.specs.Below.{place, target}
 use Rattle.weighted_tree.specs.Store.{Store, total}
@@ -25,7 +25,11 @@ refusals s n pool =
 unfoldable pub rule : Store → ℕ → List ℕ → Outcome ℕ
 rule s n pool = in_order (refusals s n pool) (gave (last_of 0 (draw_path s n pool)))
 
+-- the same with the place of the first accepted word beside it
+unfoldable pub drawn : Store → ℕ → List ℕ → Outcome (ℕ × ℕ)
+drawn s n pool = in_order (refusals s n pool) (gave (last_of 0 (draw_path s n pool), place (total s n) pool))
+
 -- the words are the place of the first accepted word
 pub record Promise (s : Store) (n : ℕ) (pool : List ℕ) (r : Drawing) : Type 0 where
-  pub answer : drawn_tells r.outcome ≡ rule s n pool
+  pub answer : tells r.outcome ≡ rule s n pool
   pub words : r.words ≡ consumed (rule s n pool) (place (total s n) pool)

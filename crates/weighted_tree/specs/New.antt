@@ -4,8 +4,9 @@ use Rattle.counting.specs.Sum.{sum_of, exceeds_u64}
 use Rattle.refusal.specs.Outcome.{Outcome, gave, in_order, leaves}
 use Rattle.weighted_tree.specs.Store.{Store}
 use Rattle.weighted_tree.specs.Tests.{too_many}
-use Rattle.refusal.specs.Answers.{counted_tells}
-use Rattle.refusal.specs.declared.Counted.{Counted}
+use Rattle.refusal.specs.Answers.{tells}
+use Rattle.std.specs.Prelude.{Result}
+use Rattle.refusal.specs.declared.Refusal.{Refusal}
 
 -- making a tree 10, 4
 abbrev pub refusals : Store → List ℕ → List (ℕ × Bool)
@@ -27,6 +28,6 @@ gathered (suc k) s = gathered k (set s (k / 2) (get_or s (k / 2) 0 + get_or s (s
 unfoldable pub changed : Store → List ℕ → Store
 changed s ws = gathered (length ws - 1) (ws ++ drop (length ws) s)
 
-pub record Promise (s : Store) (ws : List ℕ) (r : Counted) (after : Store) : Type 0 where
-  pub answer : counted_tells r ≡ rule s ws
+pub record Promise (s : Store) (ws : List ℕ) (r : Result ℕ Refusal) (after : Store) : Type 0 where
+  pub answer : tells r ≡ rule s ws
   pub store : after ≡ leaves (rule s ws) (changed s ws) s

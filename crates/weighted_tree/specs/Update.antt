@@ -5,8 +5,9 @@ use Rattle.refusal.specs.Outcome.{Outcome, gave, in_order, leaves}
 use Rattle.weighted_tree.specs.Store.{Store, total, weight_at}
 use Rattle.weighted_tree.specs.Path.{path_of, change_all}
 use Rattle.weighted_tree.specs.Tests.{bad_count, bad_index, damaged}
-use Rattle.refusal.specs.Answers.{counted_tells}
-use Rattle.refusal.specs.declared.Counted.{Counted}
+use Rattle.refusal.specs.Answers.{tells}
+use Rattle.std.specs.Prelude.{Result}
+use Rattle.refusal.specs.declared.Refusal.{Refusal}
 
 -- the difference, up and down: one of the two is 0
 abbrev pub rise : Store → ℕ → ℕ → ℕ → ℕ
@@ -32,6 +33,6 @@ rule s n i w = in_order (refusals s n i w) (gave n)
 unfoldable pub changed : Store → ℕ → ℕ → ℕ → Store
 changed s n i w = change_all s (rise s n i w) (fall s n i w) (path_of i)
 
-pub record Promise (s : Store) (n i w : ℕ) (r : Counted) (after : Store) : Type 0 where
-  pub answer : counted_tells r ≡ rule s n i w
+pub record Promise (s : Store) (n i w : ℕ) (r : Result ℕ Refusal) (after : Store) : Type 0 where
+  pub answer : tells r ≡ rule s n i w
   pub store : after ≡ leaves (rule s n i w) (changed s n i w) s

@@ -1,10 +1,11 @@
 -- The walk by target: the slot that a target draws.
 use Rattle.std.specs.Prelude.{ℕ, zero, suc, ◌+◌, ◌*◌, ◌-◌, Bool, cond, ◌≡◌, List, [], ◌∷◌, ltb}
 use Rattle.refusal.specs.Outcome.{Outcome, gave, in_order}
-use Rattle.refusal.specs.Answers.{drawn_tells}
-use Rattle.refusal.specs.declared.Drawn.{Drawn}
+use Rattle.refusal.specs.Answers.{tells}
 use Rattle.weighted_tree.specs.Store.{Store, cell_at}
 use Rattle.weighted_tree.specs.Tests.{bad_count, no_total, bad_target, damaged}
+use Rattle.std.specs.Prelude.{Result}
+use Rattle.refusal.specs.declared.Refusal.{Refusal}
 
 -- the cells that a walk visits from cell i with a target, at most f of them: it goes left if the target is below the left subtotal, else
 -- takes that off and goes right by the same test, else stops
@@ -43,5 +44,5 @@ refusals s n t =
 unfoldable pub rule : Store → ℕ → ℕ → Outcome ℕ
 rule s n t = in_order (refusals s n t) (gave (last_of 0 (walk_path s n t)))
 
-pub record Promise (s : Store) (n t : ℕ) (r : Drawn) : Type 0 where
-  pub answer : drawn_tells r ≡ rule s n t
+pub record Promise (s : Store) (n t : ℕ) (r : Result ℕ Refusal) : Type 0 where
+  pub answer : tells r ≡ rule s n t

@@ -6,12 +6,11 @@
 
 mod path;
 mod step;
+mod tree;
 
-ghost use Rattle.std.specs.Prelude.{◌≡◌, ◌<◌, ◌≤◌, ◌-◌, ◌^◌, ◌++◌, length, take, drop};
+ghost use Rattle.std.specs.Prelude.{◌≡◌, ◌<◌, ◌≤◌, ◌-◌, ◌^◌, length, take};
 ghost use Rattle.counting.specs.Sum.{sum_of};
-ghost use Rattle.refusal.specs.Answers.{drawn_tells};
-ghost use Rattle.weighted_tree.specs.Path.{indexes_below, sound_all};
-ghost use Rattle.weighted_tree.specs.Tests.{full};
+ghost use Rattle.refusal.specs.Answers.{tells};
 ghost use Rattle.weighted_tree.specs.New as new;
 ghost use Rattle.weighted_tree.specs.IsValid as is_valid;
 ghost use Rattle.weighted_tree.specs.Get as get;
@@ -22,267 +21,140 @@ ghost use Rattle.weighted_tree.specs.Walk as walk;
 ghost use Rattle.weighted_tree.specs.Draw as draw;
 ghost use Rattle.weighted_tree.specs.IsSound as is_sound;
 
-use counting::Summed;
-use path::{
-    bad_count, change_parents, change_path, excess, parents_sound, path_sound, sound, subtotal,
-    weight_at,
-};
-use refusal::{Counted, Drawing, Drawn, Popped, Refusal, Said, Weighed};
-use step::Step;
-use words::Taken;
-
-// Copies the weights to the front of the store.
-fn copy_in(store: &mut [u64], weights: &[u64])
-    requires { length weights.now ≤ length store.old }
-    ensures { store.new ≡ weights.now ++ drop (length weights.now) store.old }
-{
-    let mut i = 0;
-    while i < weights.len() {
-        store[i] = weights[i];
-        i = i + 1;
-    }
-}
+use path::{change_parents, change_path};
+use refusal::{Drawing, Refusal};
+use tree::Tree;
 
 // Adds each of the first cells to its parent, from the last down to cell 1.
 fn gather(store: &mut [u64], count: usize)
     requires { (count ≤ length store.old) × (sum_of (take count store.old) < 2 ^ 64) }
     ensures { store.new ≡ new.gathered (count - 1) store.old }
 {
-    let mut child = count;
-    while 1 < child {
-        child = child - 1;
-        let parent = (child - 1) / 2;
-        store[parent] = store[parent] + store[child];
+    for child in (1..count).rev() {
+        store[(child - 1) / 2] += store[child];
     }
 }
 
 // Makes a tree of the weights in the store, whatever the store held.
-#[tactic(auto, using(crate::proofs::Cells::good_count))]
-pub fn new(store: &mut [u64], weights: &[u64]) -> Counted
+pub fn new(store: &mut [u64], weights: &[u64]) -> Result<usize, Refusal>
     ensures { new.Promise store.old weights.now result store.new }
 {
     let count = weights.len();
-    if bad_count(store, count) {
-        return Counted::Refused(Refusal::Full);
-    }
-    match counting::sum(weights) {
-        Summed::Exceeds => {
-            return Counted::Refused(Refusal::Overflow);
-        }
-        Summed::Sum(_) => {}
-    }
-    copy_in(store, weights);
+    Tree::of(store, count).map_err(|_| Refusal::Full)?;
+    counting::sum(weights).ok_or(Refusal::Overflow)?;
+    store[..count].copy_from_slice(weights);
     gather(store, count);
-    Counted::Count(count)
+    Ok(count)
 }
 
 // Whether the tree can be drawn from.
-#[tactic(auto, using(crate::proofs::Cells::good_count), unfolding(crate::specs::IsValid::rule))]
-pub fn is_valid(store: &[u64], count: usize) -> Said
+#[tactic(auto, unfolding(crate::specs::IsValid::rule))]
+pub fn is_valid(store: &[u64], count: usize) -> Result<bool, Refusal>
     ensures { is_valid.Promise store.now count result }
 {
-    if bad_count(store, count) {
-        return Said::Refused(Refusal::BadCount);
-    }
-    if count == 0 {
-        return Said::No;
-    }
-    if 0 < subtotal(store, count, 0) {
-        Said::Yes
-    } else {
-        Said::No
-    }
+    let tree = Tree::of(store, count)?;
+    Ok(0 < count && 0 < tree.total())
 }
 
 // The weight of a slot.
-#[tactic(auto, using(crate::proofs::Cells::good_count), unfolding(crate::specs::Get::rule, crate::specs::Path::sound_all, crate::specs::Tests::damaged))]
-pub fn get(store: &[u64], count: usize, index: usize) -> Weighed
+#[tactic(auto, unfolding(crate::specs::Get::rule, crate::specs::Path::sound_all, crate::specs::Tests::damaged))]
+pub fn get(store: &[u64], count: usize, index: usize) -> Result<u64, Refusal>
     ensures { get.Promise store.now count index result }
 {
-    if bad_count(store, count) {
-        return Weighed::Refused(Refusal::BadCount);
-    }
+    let tree = Tree::of(store, count)?;
     if count <= index {
-        return Weighed::Refused(Refusal::BadIndex);
+        return Err(Refusal::BadIndex);
     }
-    if !sound(store, count, index) {
-        return Weighed::Refused(Refusal::Damaged);
-    }
-    Weighed::Weight(weight_at(store, count, index))
+    tree.weight_at(index).ok_or(Refusal::Damaged)
 }
 
 // Removes the last slot.
-#[tactic(auto, using(crate::proofs::Cells::good_count))]
-pub fn pop(store: &mut [u64], count: usize) -> Popped
+pub fn pop(store: &mut [u64], count: usize) -> Result<(u64, usize), Refusal>
     ensures { pop.Promise store.old count result store.new }
 {
-    if bad_count(store, count) {
-        return Popped::Refused(Refusal::BadCount);
-    }
-    if count == 0 {
-        return Popped::Refused(Refusal::Empty);
-    }
-    let last = count - 1;
-    if !path_sound(store, count, last) {
-        return Popped::Refused(Refusal::Damaged);
-    }
-    let weight = weight_at(store, count, last);
+    let tree = Tree::of(store, count)?;
+    let last = count.checked_sub(1).ok_or(Refusal::Empty)?;
+    let weight = tree.weight_on_path(last).ok_or(Refusal::Damaged)?;
     change_parents(store, last, 0, weight);
     store[last] = 0;
-    Popped::Weight(weight, last)
-}
-
-// Whether the store has no room for one slot more.
-#[tactic(auto, unfolding(crate::specs::Tests::full))]
-fn is_full(store: &[u64], count: usize) -> bool
-    ensures { result ≡ full store.now count }
-{
-    if count == path::MOST_SLOTS {
-        true
-    } else {
-        count == store.len()
-    }
+    Ok((weight, last))
 }
 
 // Appends a slot at the end.
-#[tactic(auto, using(crate::proofs::Cells::has_room))]
-pub fn push(store: &mut [u64], count: usize, weight: u64) -> Counted
+pub fn push(store: &mut [u64], count: usize, weight: u64) -> Result<usize, Refusal>
     ensures { push.Promise store.old count weight result store.new }
 {
-    if bad_count(store, count) {
-        return Counted::Refused(Refusal::BadCount);
+    let tree = Tree::of(store, count)?;
+    if tree.is_full() {
+        return Err(Refusal::Full);
     }
-    if is_full(store, count) {
-        return Counted::Refused(Refusal::Full);
+    if !tree.parents_sound(count) {
+        return Err(Refusal::Damaged);
     }
-    if !parents_sound(store, count, count) {
-        return Counted::Refused(Refusal::Damaged);
-    }
-    let total = subtotal(store, count, 0);
-    if 18446744073709551615 - total < weight {
-        return Counted::Refused(Refusal::Overflow);
-    }
+    tree.total().checked_add(weight).ok_or(Refusal::Overflow)?;
     store[count] = weight;
     change_parents(store, count, weight, 0);
-    Counted::Count(count + 1)
+    Ok(count + 1)
 }
 
 // Changes the weight of a slot.
-#[tactic(auto, using(crate::proofs::Cells::good_count))]
-pub fn update(store: &mut [u64], count: usize, index: usize, weight: u64) -> Counted
+pub fn update(store: &mut [u64], count: usize, index: usize, weight: u64) -> Result<usize, Refusal>
     ensures { update.Promise store.old count index weight result store.new }
 {
-    if bad_count(store, count) {
-        return Counted::Refused(Refusal::BadCount);
-    }
+    let tree = Tree::of(store, count)?;
     if count <= index {
-        return Counted::Refused(Refusal::BadIndex);
+        return Err(Refusal::BadIndex);
     }
-    if !path_sound(store, count, index) {
-        return Counted::Refused(Refusal::Damaged);
-    }
-    let old = weight_at(store, count, index);
-    let rise = excess(weight, old);
-    let total = subtotal(store, count, 0);
-    if 18446744073709551615 - total < rise {
-        return Counted::Refused(Refusal::Overflow);
-    }
-    let fall = excess(old, weight);
+    let old = tree.weight_on_path(index).ok_or(Refusal::Damaged)?;
+    let rise = weight.saturating_sub(old);
+    let fall = old.saturating_sub(weight);
+    tree.total().checked_add(rise).ok_or(Refusal::Overflow)?;
     change_path(store, index, rise, fall);
-    Counted::Count(count)
-}
-
-// The walk from cell 0 with a target.
-fn descend(store: &[u64], count: usize, target: u64) -> Drawn
-    requires { (count ≤ length store.now) × (count ≤ 4096) × (0 < count) }
-    ensures { drawn_tells result ≡ walk.walk_end store.now count (walk.walk_path store.now count target) }
-{
-    let mut index = 0;
-    let mut rest = target;
-    loop {
-        let left = subtotal(store, count, 2 * index + 1);
-        let right = subtotal(store, count, 2 * index + 2);
-        match step::step_from(subtotal(store, count, index), left, right, rest) {
-            Step::Unsound => {
-                return Drawn::Refused(Refusal::Damaged);
-            }
-            Step::Left => {
-                index = 2 * index + 1;
-            }
-            Step::Right(after) => {
-                rest = after;
-                index = 2 * index + 2;
-            }
-            Step::Here => {
-                return Drawn::Index(index);
-            }
-        }
-    }
+    Ok(count)
 }
 
 // The slot that a target draws.
-#[tactic(auto, using(crate::proofs::Cells::good_count, crate::proofs::Cells::cell_some), unfolding(crate::specs::Walk::rule, crate::specs::Walk::walk_end))]
-pub fn walk(store: &[u64], count: usize, target: u64) -> Drawn
+#[tactic(auto, using(crate::proofs::Cells::cell_some), unfolding(crate::specs::Walk::rule, crate::specs::Walk::walk_end))]
+pub fn walk(store: &[u64], count: usize, target: u64) -> Result<usize, Refusal>
     ensures { walk.Promise store.now count target result }
 {
-    if bad_count(store, count) {
-        return Drawn::Refused(Refusal::BadCount);
-    }
-    let total = subtotal(store, count, 0);
+    let tree = Tree::of(store, count)?;
+    let total = tree.total();
     if total == 0 {
-        return Drawn::Refused(Refusal::InsufficientNonZero);
+        return Err(Refusal::InsufficientNonZero);
     }
     if total <= target {
-        return Drawn::Refused(Refusal::BadTarget);
+        return Err(Refusal::BadTarget);
     }
-    descend(store, count, target)
+    tree.descend(target)
+}
+
+// The slot that the words of a pool draw, and how many words it took.
+fn drawn(store: &[u64], count: usize, pool: &[u64]) -> Result<(usize, usize), Refusal>
+    ensures { tells result ≡ draw.drawn store.now count pool.now }
+{
+    let tree = Tree::of(store, count)?;
+    let total = tree.total();
+    if total == 0 {
+        return Err(Refusal::InsufficientNonZero);
+    }
+    let (target, words): (u64, usize) = words::number_below(pool, total)?;
+    let index = tree.descend(target)?;
+    Ok((index, words))
 }
 
 // The slot that the words of a pool draw.
-#[tactic(auto, using(crate::proofs::Cells::good_count, crate::proofs::Cells::cell_some), unfolding(crate::specs::Draw::rule))]
 pub fn draw(store: &[u64], count: usize, pool: &[u64]) -> Drawing
     ensures { draw.Promise store.now count pool.now result }
 {
-    if bad_count(store, count) {
-        return Drawing::new(Drawn::Refused(Refusal::BadCount), 0);
-    }
-    let total = subtotal(store, count, 0);
-    if total == 0 {
-        return Drawing::new(Drawn::Refused(Refusal::InsufficientNonZero), 0);
-    }
-    match words::number_below(pool, total) {
-        Taken::Nothing => Drawing::new(Drawn::Refused(Refusal::OutOfWords), 0),
-        Taken::Target(target, place) => Drawing::new(descend(store, count, target), place),
-    }
-}
-
-// Whether each of the first cells is sound.
-#[tactic(auto, using(crate::proofs::Climb::below_next, crate::proofs::Climb::below_none, crate::proofs::Climb::sound_cons, crate::proofs::Climb::sound_stop, crate::proofs::Climb::sound_none))]
-fn all_sound(store: &[u64], count: usize) -> bool
-    requires { (count ≤ length store.now) × (count ≤ 4096) }
-    ensures { result ≡ sound_all store.now count (indexes_below count) }
-{
-    let mut i = count;
-    while 0 < i {
-        i = i - 1;
-        if !sound(store, count, i) {
-            return false;
-        }
-    }
-    true
+    Drawing::from(drawn(store, count, pool))
 }
 
 // Whether all cells below the count are sound.
-#[tactic(auto, using(crate::proofs::Cells::good_count), unfolding(crate::specs::IsSound::rule))]
-pub fn is_sound(store: &[u64], count: usize) -> Said
+#[tactic(auto, unfolding(crate::specs::IsSound::rule))]
+pub fn is_sound(store: &[u64], count: usize) -> Result<bool, Refusal>
     ensures { is_sound.Promise store.now count result }
 {
-    if bad_count(store, count) {
-        return Said::Refused(Refusal::BadCount);
-    }
-    if all_sound(store, count) {
-        Said::Yes
-    } else {
-        Said::No
-    }
+    let tree = Tree::of(store, count)?;
+    Ok(tree.all_sound())
 }

@@ -8,6 +8,3 @@ use Rattle.weighted_tree.proofs.gather.Given as goal
 abbrev pub invariant-loop-child : goal.invariant-loop-child
 invariant-loop-child l =
     (l.child ≤ length l.store) × (sum_of (take l.child l.store) < 2 ^ 64) × (gathered (l.count - 1) l.initial.store ≡ gathered (l.child - 1) l.store)
-
-abbrev pub decreases-loop-child : goal.decreases-loop-child
-decreases-loop-child l = l.child

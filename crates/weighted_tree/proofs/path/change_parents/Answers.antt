@@ -1,26 +1,32 @@
--- Each parent can change when its turn comes, since what was changed before is no parent of what is left; at cell 0 nothing is left.
-use Rattle.std.proofs.Common.{◌<◌, length-set, arith, sym, ◌∙◌}
-use Rattle.weighted_tree.specs.Path.{CanChange}
-use Rattle.weighted_tree.proofs.Climb.{change_top, change_up, each_here, each_up}
+-- Each parent can change when its turn comes; at cell 0 nothing is left.
+use Rattle.std.proofs.Common.{◌<◌, length, arith}
+use Rattle.weighted_tree.proofs.Climb.{change_end, change_room, change_can, change_more}
 use Rattle.weighted_tree.proofs.path.change_parents.Goals as goal
+use Rattle.weighted_tree.proofs.path.change_parents.Goals.{In-Some}
+
+room : (c : In-Some) → c.in-Some.at < length c.loop-at.store
+room c = change_room _ _ _ _ _ _ c.loop-at.invariant _ _ c.in-Some.ensures.steps
+
+pub offset_bounds-store-at : goal.offset_bounds-store-at
+offset_bounds-store-at c = omega (arith, room (goal.at.offset_bounds-store-at c).In-Some)
+
+pub bounds-store-at : goal.bounds-store-at
+bounds-store-at c = room (goal.at.bounds-store-at c).In-Some
+
+pub offset_bounds-store-at-in-loop-at : goal.offset_bounds-store-at-in-loop-at
+offset_bounds-store-at-in-loop-at c = omega (arith, room (goal.at.offset_bounds-store-at-in-loop-at c).In-Some)
+
+pub bounds-store-at-in-loop-at : goal.bounds-store-at-in-loop-at
+bounds-store-at-in-loop-at c = room (goal.at.bounds-store-at-in-loop-at c).In-Some
 
 pub overflow_add-store : goal.overflow_add-store
-overflow_add-store c =
-    let some : 0 < c.loop-at.at = omega arith in
-    record { fits = (each_here (CanChange c.args.rise c.args.fall) _ _ some c.loop-at.invariant.1).0 }
+overflow_add-store c = record { fits = (change_can _ _ _ _ _ _ c.loop-at.invariant _ _ c.in-Some.ensures.steps).0 }
 
 pub overflow_sub-store : goal.overflow_sub-store
-overflow_sub-store c =
-    let some : 0 < c.loop-at.at = omega arith in
-    (each_here (CanChange c.args.rise c.args.fall) _ _ some c.loop-at.invariant.1).1
+overflow_sub-store c = (change_can _ _ _ _ _ _ c.loop-at.invariant _ _ c.in-Some.ensures.steps).1
 
 pub loop-at-preserved : goal.loop-at-preserved
-loop-at-preserved c =
-    let some : 0 < c.loop-at.at = omega arith in (
-      simp length-set (omega arith),
-      each_up (CanChange c.args.rise c.args.fall) _ _ _ some c.loop-at.invariant.1,
-      c.loop-at.invariant.2 ∙ change_up _ _ _ _ some,
-    )
+loop-at-preserved c = change_more _ _ _ _ _ _ c.loop-at.invariant _ _ c.in-Some.ensures.steps
 
 pub returns : goal.returns
-returns c = sym (c.loop-at.invariant.2 ∙ change_top _ _ _ _ (omega arith))
+returns c = change_end _ _ _ _ _ _ c.loop-at.invariant c.in-None.ensures.steps.0
