@@ -1,14 +1,15 @@
 -- The judgement of a table, and the weights that it shows, from what the parts answered. The cells of a table whose slots could all lend hold the
 -- pairs that draw each index; one where some could not is not fair, since a fair one draws indexes alone and n times each weight is a u64.
 -- Assumes nothing.
-use Prim.Native.Nat.{ℕ, ◌+◌, ◌*◌, ◌/◌, ◌<◌, ◌^◌, min}
+use Prim.Native.Nat.{ℕ, ◌+◌, ◌*◌, ◌/◌, ◌<◌, min}
 use native.Mathlib.Omega.{arith}
-use mathlib.Core.Bool.{Bool, true, false, not, ◌&&◌}
+use mathlib.Core.Bool.{Bool, true, false, not}
 use mathlib.Core.Path.{◌≡◌, refl, sym, ap, ◌∙◌}
 use mathlib.Core.List.{List}
 use borrow.Author.Tests.{le-ltb, eqb-true, ltb-true, leb-true, not-true, not-false}
 use lib.Dec.{ltb, leb, eqb}
-use lib.ListN.{length, get_or, replicate, length-replicate, get_or-replicate}
+use Rattle.std.proofs.lemmas.Bool.{and_parts}
+use lib.ListN.{length, get_or, replicate}
 use Rattle.counting.specs.Sum.{sum_of, exceeds_u64}
 use Rattle.counting.specs.Below.{all_below, list_below}
 use Rattle.counting.proofs.Below.{all_same, all_at, some_false, length_below, get_d_below, list_below_lem}
@@ -17,29 +18,20 @@ use Rattle.weighted_alias.specs.New.{Scales}
 use Rattle.weighted_alias.proofs.Scales.{scaled_is}
 use Rattle.alias_checker.specs.Shares.{lent, far, fails, Lent}
 use Rattle.alias_checker.specs.Check.{pairs_drawing, fair, changed, Judged}
+use Rattle.std.specs.Prelude.{Ok, Err}
+use Rattle.refusal.specs.declared.Refusal.TheVariants.{Damaged}
 use Rattle.alias_checker.specs.Weights.{share, damaged, shown, Restored}
 use Rattle.alias_checker.proofs.Pairs.{pairs_closed, fair_counts, fair_draws}
 
--- ---- the capped odds: for 0 zeros, for the largest u64 the odds
-zeros_below : (n : ℕ) (f : ℕ → ℕ) → ((i : ℕ) → i < n → f i ≡ 0) → list_below n f ≡ replicate n 0
-zeros_below n f h = sym (list_below_lem n f (replicate n 0) (length-replicate n 0) (λ i l. get_or-replicate n i 0 0 l ∙ sym (h i l)))
-
-pub capped_all : (odds : List ℕ) → ((i : ℕ) → get_or odds i 0 < 2 ^ 64) → list_below (length odds) (λ i. min (get_or odds i 0) 18446744073709551615) ≡ odds
-capped_all odds fits = sym (list_below_lem (length odds) (λ i. min (get_or odds i 0) 18446744073709551615) odds refl (λ i l. omega (arith, fits i)))
-
 -- ---- the judgement
--- what a slot that strays, or a cell that exceeds u64, says
-pub and_both : (a b : Bool) → (a && b) ≡ true → (a ≡ true) × (b ≡ true)
-and_both true b e = (refl, e)
-and_both false b e = absurd (let z : ◌≡◌ {A = ℕ} 0 1 = cc in omega arith)
-
+-- no slot of a fair table strays
 pub fair_near : (ws odds links : List ℕ) → length odds ≡ length ws → fair ws odds links ≡ true → (j : ℕ) → j < length odds → far odds links (sum_of ws) j ≡ false
 unfolding drawn_by
 fair_near ws odds links long e j h = go (far odds links (sum_of ws) j) refl
   where
     go : (b : Bool) → far odds links (sum_of ws) j ≡ b → far odds links (sum_of ws) j ≡ false
     go true q =
-        let is = and_both (ltb (get_or odds j 0) (sum_of ws)) (leb (length odds) (get_or links j 0)) q in
+        let is = and_parts (ltb (get_or odds j 0) (sum_of ws)) (leb (length odds) (get_or links j 0)) q in
         let at = fair_draws ws odds links long e j (get_or odds j 0) h (ltb-true (get_or odds j 0) (sum_of ws) is.0) in
         absurd (let follows : get_or links j 0 < length odds = rw (le-ltb (get_or odds j 0) (get_or odds j 0) (omega arith)) at at in omega (arith, leb-true (length odds) (get_or links j 0) is.1))
     go false q = q
@@ -53,7 +45,11 @@ module _ (ws odds links : List ℕ) (long : length odds ≡ length ws) (S : ℕ)
 
   fair_lends : fair ws odds links ≡ true → fails odds links S (λ i. get_or capped i 0) ≡ false
   fair_lends e =
-      rw (some_false (length odds) (far odds links S) (λ j h. rw sum (fair_near ws odds links long e j h)), some_false (length odds) (λ i. exceeds_u64 (get_or capped i 0 + lent odds links S i)) (λ i h. le-ltb 18446744073709551615 (get_or capped i 0 + lent odds links S i) (omega (arith, counts i h, fair_counts ws odds links e i (omega arith), scales i (omega arith)))))
+      rw (
+        some_false (length odds) (far odds links S) (λ j h. rw sum (fair_near ws odds links long e j h)),
+        some_false (length odds) (λ i. exceeds_u64 (get_or capped i 0 + lent odds links S i))
+            (λ i h. le-ltb 18446744073709551615 (get_or capped i 0 + lent odds links S i) (omega (arith, counts i h, fair_counts ws odds links e i (omega arith), scales i (omega arith)))),
+      )
 
   module _ (r : Bool) (lent_to : List ℕ) (l : Lent odds links S capped r lent_to) where
     cells : r ≡ true → (i : ℕ) → i < length odds → get_or lent_to i 0 ≡ pairs_drawing odds links (sum_of ws) i
@@ -73,37 +69,38 @@ module _ (ws odds links : List ℕ) (long : length odds ≡ length ws) (S : ℕ)
           work_is = list_below_lem (length ws) (λ i. length ws * get_or ws i 0) lent_to size (λ i h. eqb-true _ _ (all_at (length ws) (λ k. eqb (get_or lent_to k 0) (length ws * get_or ws k 0)) (sym a) i h)) ∙ sym (scaled_is ws) ∙ (rw yes);
         }
 
-    no_for : fair ws odds links ≡ false → (after : List ℕ) → after ≡ list_below (length odds) (λ i. min (get_or odds i 0) 0) → Judged ws odds links false after
+    no_for : fair ws odds links ≡ false → (after : List ℕ) → after ≡ replicate (length odds) 0 → Judged ws odds links false after
     unfolding changed
     no_for unfair after e =
-        record { answer = sym unfair; work_is = e ∙ zeros_below (length odds) (λ i. min (get_or odds i 0) 0) (λ i h. omega arith) ∙ (rw (unfair, long)) }
+        record { answer = sym unfair; work_is = e ∙ (rw (unfair, long)) }
 
-    pub judged_no : r ≡ false → (after : List ℕ) → after ≡ list_below (length odds) (λ i. min (get_or odds i 0) 0) → Judged ws odds links false after
+    pub judged_no : r ≡ false → (after : List ℕ) → after ≡ replicate (length odds) 0 → Judged ws odds links false after
     judged_no e = no_for (go (fair ws odds links) refl)
       where
         go : (b : Bool) → fair ws odds links ≡ b → fair ws odds links ≡ false
         go true q = absurd (let z = sym e ∙ l.answer ∙ ap not (fair_lends q) in let y : ◌≡◌ {A = ℕ} 0 1 = cc in omega arith)
         go false q = q
 
-    pub judged_apart : r ≡ true → false ≡ all_below (length ws) (λ i. eqb (get_or lent_to i 0) (length ws * get_or ws i 0)) → (after : List ℕ) → after ≡ list_below (length odds) (λ i. min (get_or odds i 0) 0) → Judged ws odds links false after
+    pub judged_apart : r ≡ true → false ≡ all_below (length ws) (λ i. eqb (get_or lent_to i 0) (length ws * get_or ws i 0)) → (after : List ℕ) → after ≡ replicate (length odds) 0 → Judged ws odds links false after
     judged_apart e a = no_for (agreed e ∙ sym a)
 
 -- ---- the weights that a table shows
-module _ (odds links : List ℕ) (S : ℕ) (capped : List ℕ) (cap : capped ≡ odds) (r : Bool) (lent_to : List ℕ) (l : Lent odds links S capped r lent_to) where
+module _ (odds links : List ℕ) (S : ℕ) (r : Bool) (lent_to : List ℕ) (l : Lent odds links S odds r lent_to) where
   answers : r ≡ not (damaged odds links S)
   unfolding damaged
-  answers = rw cap at l.answer
+  answers = l.answer
 
-  pub restored_yes : r ≡ true → (after : List ℕ) → after ≡ list_below (length lent_to) (λ i. get_or lent_to i 0 / length lent_to) → length lent_to ≡ length odds → Restored odds links S true after
+  pub restored_yes : r ≡ true → (after : List ℕ) → after ≡ list_below (length lent_to) (λ i. get_or lent_to i 0 / length lent_to) → length lent_to ≡ length odds → Restored odds links S (Ok tt) after
   unfolding shown
   restored_yes e after q size =
       let whole : damaged odds links S ≡ false = not-true _ (sym answers ∙ e) in
-      let cell : (i : ℕ) → i < length odds → get_or lent_to i 0 ≡ share odds links S i = λ i h. ap (λ (x : List ℕ). get_or x i 0) (l.cells e) ∙ get_d_below (length odds) (λ k. get_or capped k 0 + lent odds links S k) i h ∙ (rw cap) in
+      let cell : (i : ℕ) → i < length odds → get_or lent_to i 0 ≡ share odds links S i = λ i h. ap (λ (x : List ℕ). get_or x i 0) (l.cells e) ∙ get_d_below (length odds) (λ k. get_or odds k 0 + lent odds links S k) i h in
       let size_after : length after ≡ length odds = ap length q ∙ length_below (length lent_to) (λ i. get_or lent_to i 0 / length lent_to) ∙ size in
-      let part : (i : ℕ) → i < length odds → get_or after i 0 ≡ share odds links S i / length odds = λ i h. ap (λ (x : List ℕ). get_or x i 0) q ∙ get_d_below (length lent_to) (λ k. get_or lent_to k 0 / length lent_to) i (omega arith) ∙ (rw (cell i h, size)) in
-      record { answer = sym e ∙ answers; output_is = rw whole (list_below_lem (length odds) (λ i. share odds links S i / length odds) after size_after part) }
+      let part : (i : ℕ) → i < length odds → get_or after i 0 ≡ share odds links S i / length odds =
+      λ i h. ap (λ (x : List ℕ). get_or x i 0) q ∙ get_d_below (length lent_to) (λ k. get_or lent_to k 0 / length lent_to) i (omega arith) ∙ (rw (cell i h, size)) in
+      record { answer = rw whole; output_is = rw whole (list_below_lem (length odds) (λ i. share odds links S i / length odds) after size_after part) }
 
-  pub restored_no : r ≡ false → (after : List ℕ) → after ≡ list_below (length odds) (λ i. min (get_or odds i 0) 0) → Restored odds links S false after
+  pub restored_no : r ≡ false → (after : List ℕ) → after ≡ replicate (length odds) 0 → Restored odds links S (Err Damaged) after
   restored_no e after q =
       let broken : damaged odds links S ≡ true = not-false _ (sym answers ∙ e) in
-      record { answer = sym e ∙ answers; output_is = rw broken (q ∙ zeros_below (length odds) (λ i. min (get_or odds i 0) 0) (λ i h. omega arith)) }
+      record { answer = rw broken; output_is = rw broken q }

@@ -2,11 +2,12 @@
 -- followed is no slot's, or a cell would exceed u64, the whole fails; else nothing does. Assumes nothing.
 use Prim.Native.Nat.{ℕ, ◌+◌, ◌-◌, ◌<◌, ◌≤◌, ◌^◌}
 use native.Mathlib.Omega.{arith}
-use mathlib.Core.Bool.{Bool, true, false, not, ◌||◌}
+use mathlib.Core.Bool.{Bool, true, false, not}
 use mathlib.Core.Path.{◌≡◌, refl, sym}
 use mathlib.Core.List.{List}
 use borrow.Author.Tests.{lt-ltb, le-ltb, le-leb, lt-leb, eq-eqb, ne_eqb, eqb-true, eqb-false}
 use lib.Dec.{eqb}
+use Rattle.std.proofs.lemmas.Bool.{or_left, or_right}
 use lib.ListN.{length, get_or, set, length-set}
 use lib.Seq.{get_or-set_same, get_or-set_other}
 use Rattle.counting.specs.Sum.{exceeds_u64}
@@ -47,14 +48,6 @@ module _ (odds links : List ℕ) (S : ℕ) where
   pub lending_begins : (found : List ℕ) → length found ≡ length odds → ((i : ℕ) → get_or found i 0 < 2 ^ 64) → Lending found found 0
   lending_begins found h f = record { fits = f; inside = omega arith; long = h; near = λ k l. absurd (omega arith); cells = λ i l. omega (arith, lent_none i) }
 
-  either : (a b : Bool) → a ≡ true → (a || b) ≡ true
-  either true b e = refl
-  either false b e = absurd (let z : ◌≡◌ {A = ℕ} 0 1 = cc in omega arith)
-
-  either_too : (a b : Bool) → b ≡ true → (a || b) ≡ true
-  either_too true b e = refl
-  either_too false b e = e
-
   module _ (found now : List ℕ) (j : ℕ) (k : Lending found now j) (h : j < length odds) where
     nearer : far odds links S j ≡ false → (i : ℕ) → i < j + 1 → far odds links S i ≡ false
     nearer e i l = go (next i j (omega arith))
@@ -89,7 +82,8 @@ module _ (odds links : List ℕ) (S : ℕ) where
           at : (i : ℕ) → i < length odds → (b : Bool) → eqb (get_or links j 0) i ≡ b → get_or (set now (get_or links j 0) (get_or now (get_or links j 0) 0 + (S - get_or odds j 0))) i 0 ≡ get_or found i 0 + lent_below odds links S (j + 1) i
           at i l true e =
               let same = eqb-true (get_or links j 0) i e in
-              let stored : get_or (set now (get_or links j 0) (get_or now (get_or links j 0) 0 + (S - get_or odds j 0))) i 0 ≡ get_or now i 0 + (S - get_or odds j 0) = rw same (get_or-set_same now i (get_or now i 0 + (S - get_or odds j 0)) 0 (omega (arith, k.long))) in
+              let stored : get_or (set now (get_or links j 0) (get_or now (get_or links j 0) 0 + (S - get_or odds j 0))) i 0 ≡ get_or now i 0 + (S - get_or odds j 0) =
+              rw same (get_or-set_same now i (get_or now i 0 + (S - get_or odds j 0)) 0 (omega (arith, k.long))) in
               omega (arith, k.cells i l, lent_step i j, lends_here i j o same)
           at i l false e =
               let apart = eqb-false (get_or links j 0) i e in
@@ -99,7 +93,8 @@ module _ (odds links : List ℕ) (S : ℕ) where
           fit : (i : ℕ) → (b : Bool) → eqb (get_or links j 0) i ≡ b → get_or (set now (get_or links j 0) (get_or now (get_or links j 0) 0 + (S - get_or odds j 0))) i 0 < 2 ^ 64
           fit i true e =
               let same = eqb-true (get_or links j 0) i e in
-              let stored : get_or (set now (get_or links j 0) (get_or now (get_or links j 0) 0 + (S - get_or odds j 0))) (get_or links j 0) 0 ≡ get_or now (get_or links j 0) 0 + (S - get_or odds j 0) = get_or-set_same now (get_or links j 0) (get_or now (get_or links j 0) 0 + (S - get_or odds j 0)) 0 (omega (arith, k.long)) in
+              let stored : get_or (set now (get_or links j 0) (get_or now (get_or links j 0) 0 + (S - get_or odds j 0))) (get_or links j 0) 0 ≡ get_or now (get_or links j 0) 0 + (S - get_or odds j 0) =
+              get_or-set_same now (get_or links j 0) (get_or now (get_or links j 0) 0 + (S - get_or odds j 0)) 0 (omega (arith, k.long)) in
               rw (← same) (omega arith)
           fit i false e =
               omega (arith, k.fits i, get_or-set_other now (get_or links j 0) i (get_or now (get_or links j 0) 0 + (S - get_or odds j 0)) 0 (λ q. eqb-false (get_or links j 0) i e (sym q)))
@@ -108,7 +103,7 @@ module _ (odds links : List ℕ) (S : ℕ) where
       pub lending_strays : length odds ≤ get_or links j 0 → false ≡ not (fails odds links S (λ i. get_or found i 0))
       lending_strays away =
           let one : far odds links S j ≡ true = rw (lt-ltb (get_or odds j 0) S o, le-leb (length odds) (get_or links j 0) away) in
-          rw (either (some_below (length odds) (far odds links S)) (some_below (length odds) (λ i. exceeds_u64 (get_or found i 0 + lent odds links S i))) (some_true (length odds) (far odds links S) j h one))
+          rw (or_left (some_below (length odds) (far odds links S)) (some_below (length odds) (λ i. exceeds_u64 (get_or found i 0 + lent odds links S i))) (some_true (length odds) (far odds links S) j h one))
 
       -- the cell would exceed u64
       pub lending_exceeds : get_or links j 0 < length odds → 18446744073709551615 - (S - get_or odds j 0) < get_or now (get_or links j 0) 0 → S < 2 ^ 64 → false ≡ not (fails odds links S (λ i. get_or found i 0))
@@ -116,7 +111,7 @@ module _ (odds links : List ℕ) (S : ℕ) where
           let i = get_or links j 0 in
           let more : 18446744073709551615 < get_or found (get_or links j 0) 0 + lent odds links S (get_or links j 0) =
           omega (arith, k.cells (get_or links j 0) near, lent_step (get_or links j 0) j, lends_here (get_or links j 0) j o refl, lent_up_to (get_or links j 0) (j + 1) (length odds) (omega arith)) in
-          rw (either_too (some_below (length odds) (far odds links S)) (some_below (length odds) (λ c. exceeds_u64 (get_or found c 0 + lent odds links S c))) (some_true (length odds) (λ c. exceeds_u64 (get_or found c 0 + lent odds links S c)) (get_or links j 0) near (lt-ltb _ _ more)))
+          rw (or_right (some_below (length odds) (far odds links S)) _ (some_true (length odds) (λ c. exceeds_u64 (get_or found c 0 + lent odds links S c)) (get_or links j 0) near (lt-ltb _ _ more)))
 
   -- all slots have lent
   pub lending_ends : (found now : List ℕ) (j : ℕ) → Lending found now j → length odds ≤ j → Lent odds links S found true now
@@ -124,6 +119,10 @@ module _ (odds links : List ℕ) (S : ℕ) where
       let all : j ≡ length odds = omega (arith, k.inside) in
       let cells : (i : ℕ) → i < length odds → get_or now i 0 ≡ get_or found i 0 + lent odds links S i = λ i l. rw (← all) (k.cells i l) in
       record {
-        answer = rw (some_false (length odds) (far odds links S) (λ i l. k.near i (omega arith)), some_false (length odds) (λ i. exceeds_u64 (get_or found i 0 + lent odds links S i)) (λ i l. le-ltb 18446744073709551615 (get_or found i 0 + lent odds links S i) (omega (arith, cells i l, k.fits i))));
+        answer = rw (
+          some_false (length odds) (far odds links S) (λ i l. k.near i (omega arith)),
+          some_false (length odds) (λ i. exceeds_u64 (get_or found i 0 + lent odds links S i))
+              (λ i l. le-ltb 18446744073709551615 (get_or found i 0 + lent odds links S i) (omega (arith, cells i l, k.fits i))),
+        );
         cells = λ e. list_below_lem (length odds) (λ i. get_or found i 0 + lent odds links S i) now k.long cells;
       }

@@ -46,7 +46,8 @@ unfolding sum_below
 slot_draws zero o c l i = step_none (eqb c i) (eqb l i) o
 slot_draws (suc S) o c l i = go (ltb S o) refl (slot_draws S o c l i)
   where
-    go : (b : Bool) → ltb S o ≡ b → how_many S (λ t. eqb (cond (ltb t o) c l) i) ≡ cond (eqb c i) (min o S) 0 + cond (eqb l i) (S - o) 0 → how_many S (λ t. eqb (cond (ltb t o) c l) i) + cond (eqb (cond b c l) i) 1 0 ≡ cond (eqb c i) (min o (suc S)) 0 + cond (eqb l i) (suc S - o) 0
+    go : (b : Bool) → ltb S o ≡ b → how_many S (λ t. eqb (cond (ltb t o) c l) i) ≡ cond (eqb c i) (min o S) 0 + cond (eqb l i) (S - o) 0
+        → how_many S (λ t. eqb (cond (ltb t o) c l) i) + cond (eqb (cond b c l) i) 1 0 ≡ cond (eqb c i) (min o (suc S)) 0 + cond (eqb l i) (suc S - o) 0
     go true e ih = step_own (eqb c i) (eqb l i) S o _ (ltb-true S o e) ih
     go false e ih = step_other (eqb c i) (eqb l i) S o _ (ltb-false S o e) ih
 

@@ -3,11 +3,12 @@ use Rattle.std.specs.Prelude.{ℕ, ◌*◌, Bool, cond, ◌||◌, ◌≡◌, Lis
 use Rattle.counting.specs.Sum.{sum_of}
 use Rattle.counting.specs.Below.{sum_below, how_many, all_below}
 use Rattle.refusal.specs.Outcome.{Outcome, gave, in_order, leaves}
-use Rattle.refusal.specs.Answers.{said_tells}
-use Rattle.refusal.specs.declared.Said.{Said}
+use Rattle.refusal.specs.Answers.{tells}
 use Rattle.weighted_alias.specs.Tests.{no_slots, too_heavy, no_total, too_many, bad_length}
 use Rattle.weighted_alias.specs.Pair.{drawn_by}
 use Rattle.weighted_alias.specs.New.{scaled, Scales}
+use Rattle.std.specs.Prelude.{Result}
+use Rattle.refusal.specs.declared.Refusal.{Refusal}
 
 -- of the n times S pairs (slot below n, number below S), how many draw i
 unfoldable pub pairs_drawing : List ℕ → List ℕ → ℕ → ℕ → ℕ
@@ -35,14 +36,13 @@ rule ws odds links work = in_order (refusals ws (length odds) (length links) wor
 unfoldable pub changed : List ℕ → List ℕ → List ℕ → List ℕ
 changed ws odds links = cond (fair ws odds links) (scaled ws) (replicate (length ws) 0)
 
-pub record Promise (ws odds links work : List ℕ) (r : Said) (after : List ℕ) : Type 0 where
-  pub answer : said_tells r ≡ rule ws odds links (length work)
+pub record Promise (ws odds links work : List ℕ) (r : Result Bool Refusal) (after : List ℕ) : Type 0 where
+  pub answer : tells r ≡ rule ws odds links (length work)
   pub work_is : after ≡ leaves (rule ws odds links (length work)) (changed ws odds links) work
 
 -- ---- what the code's parts want and leave, where nothing is refused
-pub record Judges (ws : List ℕ) (odds links work S : ℕ) : Type 0 where
+pub record Judges (ws : List ℕ) (odds work S : ℕ) : Type 0 where
   pub odds_long : odds ≡ length ws
-  pub links_long : links ≡ length ws
   pub work_long : work ≡ length ws
   pub sum : S ≡ sum_of ws
   pub scales : Scales ws

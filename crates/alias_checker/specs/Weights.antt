@@ -1,11 +1,12 @@
 -- weights: the weights that a table shows.
-use Rattle.std.specs.Prelude.{ℕ, ◌+◌, ◌/◌, Bool, cond, not, ◌||◌, ◌≡◌, List, [], ◌∷◌, eqb, length, get_or, replicate}
+use Rattle.std.specs.Prelude.{ℕ, ◌+◌, ◌/◌, Bool, cond, ◌||◌, ◌≡◌, List, [], ◌∷◌, eqb, length, get_or, replicate}
 use Rattle.counting.specs.Below.{list_below}
 use Rattle.refusal.specs.Outcome.{Outcome, gave, refused, in_order}
-use Rattle.refusal.specs.Answers.{counted_tells}
-use Rattle.refusal.specs.declared.Counted.{Counted}
+use Rattle.refusal.specs.Answers.{tells}
 use Rattle.weighted_alias.specs.Tests.{no_slots, no_total, too_many, bad_length}
 use Rattle.alias_checker.specs.Shares.{lent, fails}
+use Rattle.std.specs.Prelude.{Result, ⊤}
+use Rattle.refusal.specs.declared.Refusal.{Refusal}
 
 -- odds i, and every S - odds j with odds j below S and link j = i
 abbrev pub share : List ℕ → List ℕ → ℕ → ℕ → ℕ
@@ -38,11 +39,11 @@ abbrev pub left : Outcome ℕ → List ℕ → List ℕ → List ℕ → List �
 left (gave n) written zeros found = written
 left (refused k) written zeros found = cond (eqb k 13) zeros found
 
-pub record Promise (odds links : List ℕ) (S : ℕ) (output : List ℕ) (r : Counted) (after : List ℕ) : Type 0 where
-  pub answer : counted_tells r ≡ rule odds links S (length output)
+pub record Promise (odds links : List ℕ) (S : ℕ) (output : List ℕ) (r : Result ℕ Refusal) (after : List ℕ) : Type 0 where
+  pub answer : tells r ≡ rule odds links S (length output)
   pub output_is : after ≡ left (rule odds links S (length output)) (shown odds links S) (replicate (length odds) 0) output
 
 -- ---- what the code's part leaves, where nothing but damage is refused
-pub record Restored (odds links : List ℕ) (S : ℕ) (r : Bool) (after : List ℕ) : Type 0 where
-  pub answer : r ≡ not (damaged odds links S)
+pub record Restored (odds links : List ℕ) (S : ℕ) (r : Result ⊤ Refusal) (after : List ℕ) : Type 0 where
+  pub answer : tells r ≡ in_order ((13, damaged odds links S) ∷ []) (gave tt)
   pub output_is : after ≡ cond (damaged odds links S) (replicate (length odds) 0) (shown odds links S)

@@ -10,9 +10,8 @@ use lib.Dec.{ltb, eqb}
 use lib.ListN.{length, get_or, set, length-set}
 use lib.Seq.{get_or-set_same, get_or-set_other}
 use Rattle.counting.specs.Sum.{sum_of}
-use Rattle.weighted_alias.specs.declared.aliases.Heads.{Heads}
 use Rattle.weighted_alias.specs.New.{Making, head_of, on_small, on_big, push}
-use Rattle.weighted_alias.specs.Lists.{Chained, chain, Runs, over, once}
+use Rattle.weighted_alias.specs.Lists.{Heads, Chained, chain, Runs, over, once}
 use Rattle.weighted_alias.proofs.Places.{one_zero, Alone}
 
 pub chained_head : (links : List ℕ) (h : ℕ) (xs : List ℕ) → Chained links h xs → h ≡ head_of xs

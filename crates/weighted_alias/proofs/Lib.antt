@@ -1,4 +1,5 @@
 -- Laws of the alias table, and the proofs of its functions.
+pub mod Slices
 pub mod Places
 pub mod Chains
 pub mod Splits

@@ -1,19 +1,20 @@
 -- Weights that are not too heavy for their number: n times each of them, and their sum, are u64, since n times the largest number allowed is one.
--- And n times each weight, written cell by cell. Assumes nothing.
+-- And n times each weight. Assumes nothing.
 use Prim.Native.Nat.{ℕ, zero, suc, ◌+◌, ◌*◌, ◌/◌, ◌<◌, ◌≤◌, ◌^◌}
 use native.Mathlib.Omega.{arith}
 use native.Mathlib.Nat.{mul-le-mul_right, mul-div-le, suc-mul, zero-mul, mul-zero, mul_comm}
 use native.Mathlib.Numerals.{add-one}
 use mathlib.Core.Bool.{true, false}
 use mathlib.Core.Path.{◌≡◌, refl, sym, ap, ◌∙◌}
-use mathlib.Core.List.{List, [], ◌∷◌, map}
+use mathlib.Core.List.{List, map}
 use borrow.Author.Tests.{lt-ltb, le-ltb, eq-eqb, ne_eqb, ltb-false}
 use lib.Dec.{ltb}
 use lib.ListN.{length, get_or, take, get_or-map}
+use Rattle.std.proofs.lemmas.List.{length-map}
 use Rattle.counting.specs.Sum.{sum_of}
 use Rattle.counting.specs.Below.{list_below}
 use Rattle.counting.proofs.Sums.{sum_zero, sum_suc, sum_all}
-use Rattle.counting.proofs.Below.{Next, earlier, latest, next, some_true, some_false, some_none, list_below_lem, Filled, filled_all}
+use Rattle.counting.proofs.Below.{Next, earlier, latest, next, some_true, some_false, some_none, list_below_lem}
 use Rattle.refusal.specs.Outcome.{refused, gave}
 use Rattle.weighted_alias.specs.Tests.{too_heavy}
 use Rattle.weighted_alias.specs.WeightSum.{rule}
@@ -89,13 +90,9 @@ not_heavy ws e i h =
     let times = mul-le-mul_right (length ws) w in
     omega (arith, mul_comm (length ws) (get_or ws i 0), mul_comm (largest (length ws)) (length ws), mul-div-le 18446744073709551615 (length ws))
 
-map_long : (f : ℕ → ℕ) (l : List ℕ) → length (map f l) ≡ length l
-map_long f [] = refl
-map_long f (x ∷ l) = ap suc (map_long f l)
-
 pub scaled_long : (ws : List ℕ) → length (scaled ws) ≡ length ws
 unfolding scaled
-scaled_long ws = map_long (λ w. length ws * w) ws
+scaled_long ws = length-map ws _
 
 pub scaled_at : (ws : List ℕ) (i : ℕ) → get_or (scaled ws) i 0 ≡ length ws * get_or ws i 0
 unfolding scaled
@@ -103,7 +100,3 @@ scaled_at ws i = ap (λ (d : ℕ). get_or (map (λ w. length ws * w) ws) i d) (s
 
 pub scaled_is : (ws : List ℕ) → scaled ws ≡ list_below (length ws) (λ i. length ws * get_or ws i 0)
 scaled_is ws = list_below_lem (length ws) (λ i. length ws * get_or ws i 0) (scaled ws) (scaled_long ws) (λ i h. scaled_at ws i)
-
-pub scaled_all : (ws begun odds : List ℕ) (i : ℕ) → length begun ≡ length ws → Filled (λ k. length ws * get_or ws k 0) begun odds i → length ws ≤ i → odds ≡ scaled ws
-scaled_all ws begun odds i long d h =
-    filled_all (λ k. length ws * get_or ws k 0) begun odds i d (omega arith) ∙ rw long (sym (scaled_is ws))

@@ -6,9 +6,8 @@ use mathlib.Core.Path.{◌≡◌, refl, sym, ap, ◌∙◌}
 use mathlib.Core.List.{List, []}
 use lib.ListN.{length, get_or, set, length-set, replicate, length-replicate}
 use Rattle.counting.specs.Sum.{sum_of}
-use Rattle.weighted_alias.specs.declared.aliases.Heads.{Heads}
 use Rattle.weighted_alias.specs.New.{Making, split, pair_up, settle, scaled, paired, odds_of, links_of}
-use Rattle.weighted_alias.specs.Lists.{Chained, chain, listed, Runs, Sorted, Split, Ready, Left, Settles, unlisted}
+use Rattle.weighted_alias.specs.Lists.{Heads, Chained, chain, listed, Runs, Sorted, Split, Ready, Left, Settles, unlisted}
 use Rattle.weighted_alias.proofs.Places.{sorted_count, split_odds, split_sorted}
 use Rattle.weighted_alias.proofs.Chains.{chain_is, chain_short, Member, member, no_member}
 use Rattle.weighted_alias.proofs.Splits.{split_long, split_runs, split_forgets, making_is}

@@ -10,9 +10,8 @@ use lib.Dec.{ltb}
 use lib.ListN.{length, get_or, set, length-set}
 use lib.Seq.{get_or-set_same, get_or-set_other, ext_get_or}
 use Rattle.counting.proofs.Below.{Next, earlier, latest, next}
-use Rattle.weighted_alias.specs.declared.aliases.Heads.{Heads}
 use Rattle.weighted_alias.specs.New.{Making, making, head_of, on_small, on_big, push, split}
-use Rattle.weighted_alias.specs.Lists.{Chained, Runs, Split, Pushed, unlisted}
+use Rattle.weighted_alias.specs.Lists.{Heads, Chained, Runs, Split, Pushed, unlisted}
 use Rattle.weighted_alias.proofs.Places.{alone, split_odds, split_open, split_sorted}
 use Rattle.weighted_alias.proofs.Chains.{chained_head, heads_after, push_runs}
 
@@ -76,7 +75,8 @@ split_long S zero odds links = refl
 split_long S (suc i) odds links =
     ap length (push_links S i (split S i (unlisted odds links))) ∙ simp length-set (split_long S i odds links)
 
-split_runs_next : (S i : ℕ) (odds links : List ℕ) → i < length links → Runs (split S i (unlisted odds links)) (heads_of (split S i (unlisted odds links))) → Runs (push S i (split S i (unlisted odds links))) (heads_of (push S i (split S i (unlisted odds links))))
+split_runs_next : (S i : ℕ) (odds links : List ℕ) → i < length links → Runs (split S i (unlisted odds links)) (heads_of (split S i (unlisted odds links)))
+    → Runs (push S i (split S i (unlisted odds links))) (heads_of (push S i (split S i (unlisted odds links))))
 split_runs_next S i odds links h r =
     let t = split S i (unlisted odds links) in
     let a = alone (suc i) S t [] i (split_open S i t (split_sorted S i odds links)) in

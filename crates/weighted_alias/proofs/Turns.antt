@@ -6,9 +6,8 @@ use native.Mathlib.Omega.{arith}
 use mathlib.Core.Path.{◌≡◌, refl, sym, ap, ◌∙◌}
 use mathlib.Core.List.{List, [], ◌∷◌}
 use lib.ListN.{length, get_or, set, length-set}
-use Rattle.weighted_alias.specs.declared.aliases.Heads.{Heads}
 use Rattle.weighted_alias.specs.New.{Making, making, push, pair_heads, pair_up}
-use Rattle.weighted_alias.specs.Lists.{Chained, chain, listed, Runs, Sorted, Turn, Turned, odds_turned, rest_heads, Ready, Left}
+use Rattle.weighted_alias.specs.Lists.{Heads, Chained, chain, listed, Runs, Sorted, Turn, Turned, odds_turned, rest_heads, Ready, Left}
 use Rattle.weighted_alias.proofs.Places.{HeadsAre, heads, sorted_count, small_alone, turn_open, push_sorted, push_odds, Open, alone}
 use Rattle.weighted_alias.proofs.Chains.{chained_head, chained_set, chain_is, member, no_member, heads_after, push_runs}
 use Rattle.weighted_alias.proofs.Splits.{push_links, push_count}

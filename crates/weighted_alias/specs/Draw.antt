@@ -1,8 +1,9 @@
 -- The draw from words: the index that a pool draws from a table, and the words it consumes.
-use Rattle.std.specs.Prelude.{ℕ, ◌+◌, Bool, ◌||◌, ◌≡◌, List, [], ◌∷◌, eqb, length, drop}
+use Rattle.std.specs.Prelude.{ℕ, ◌+◌, Bool, ◌||◌, ◌≡◌, Result, List, [], ◌∷◌, eqb, length, drop}
 use Rattle.refusal.specs.Outcome.{Outcome, gave, in_order, consumed}
-use Rattle.refusal.specs.Answers.{drawn_tells}
+use Rattle.refusal.specs.Answers.{tells}
 use Rattle.refusal.specs.declared.Drawing.{Drawing}
+use Rattle.refusal.specs.declared.Refusal.{Refusal}
 use Rattle.words.specs.Below.{place, target}
 use Rattle.weighted_alias.specs.Tests.{no_slots, no_total, too_many, bad_length}
 use Rattle.weighted_alias.specs.Pair.{drawn_by, far_link}
@@ -30,14 +31,14 @@ rule odds links S pool =
 
 -- the words of both
 pub record Promise (odds links : List ℕ) (S : ℕ) (pool : List ℕ) (r : Drawing) : Type 0 where
-  pub answer : drawn_tells r.outcome ≡ rule odds links S pool
+  pub answer : tells r.outcome ≡ rule odds links S pool
   pub words : r.words ≡ consumed (rule odds links S pool) (place (length odds) pool + place S (after (length odds) pool))
 
--- ---- the second half: the slot c was had from the first words
-abbrev pub second_rule : List ℕ → List ℕ → ℕ → List ℕ → ℕ → Outcome ℕ
-second_rule odds links S rest c =
-    in_order ((12, eqb (place S rest) 0) ∷ (13, far_link odds links c (target S rest)) ∷ []) (gave (drawn_by odds links c (target S rest)))
+-- ---- what the inner call answers: the index, and the words of both beside it
+abbrev pub found : List ℕ → List ℕ → ℕ → List ℕ → ℕ × ℕ
+found odds links S pool =
+    let n = length odds in
+    (drawn_by odds links (target n pool) (target S (after n pool)), place n pool + place S (after n pool))
 
-pub record After (odds links : List ℕ) (S : ℕ) (pool : List ℕ) (c used : ℕ) (r : Drawing) : Type 0 where
-  pub answer : drawn_tells r.outcome ≡ second_rule odds links S (drop used pool) c
-  pub words : r.words ≡ consumed (second_rule odds links S (drop used pool) c) (used + place S (drop used pool))
+pub record Drawn (odds links : List ℕ) (S : ℕ) (pool : List ℕ) (r : Result (ℕ × ℕ) Refusal) : Type 0 where
+  pub answer : tells r ≡ in_order (refusals odds links S pool) (gave (found odds links S pool))

@@ -2,8 +2,16 @@
 use Rattle.std.specs.Prelude.{ℕ, zero, suc, ◌+◌, ◌-◌, ◌<◌, ◌≤◌, cond, ◌≡◌, List, [], ◌∷◌, map, ltb, eqb, length, get_or, set}
 use Rattle.counting.specs.Sum.{sum_of}
 use Rattle.counting.specs.Below.{sum_below}
-use Rattle.weighted_alias.specs.declared.aliases.Heads.{Heads}
-use Rattle.weighted_alias.specs.New.{Making, making, head_of, split}
+use Rattle.weighted_alias.specs.declared.aliases.Aliases.{Aliases}
+use Rattle.weighted_alias.specs.New.{Making, making, head_of, split, pair_up, settle}
+
+-- the heads of both
+pub record Heads : Type 0 where
+  pub small : ℕ
+  pub big : ℕ
+
+abbrev pub heads : Aliases → Heads
+heads a = record { small = a.small; big = a.big }
 
 -- the list runs through the links from a head
 unfoldable pub Chained : List ℕ → ℕ → List ℕ → Type 0
@@ -99,3 +107,30 @@ pub record Settles (odds links : List ℕ) (h : ℕ) : Type 0 where
   pub few : length odds ≤ 4096
   pub long : length links ≡ length odds
   pub runs : Chained links h (chain (length odds) links h)
+
+-- ---- what the code's methods leave, which keep the slices and the sum that they were handed
+pub record Kept (was is : Aliases) : Type 0 where
+  pub odds : is.odds.ghost_name ≡ was.odds.ghost_name
+  pub links : is.links.ghost_name ≡ was.links.ghost_name
+  pub sum : is.sum ≡ was.sum
+
+pub record Pushes (was : Aliases) (x : ℕ) (is : Aliases) : Type 0 where
+  pub kept : Kept was is
+  pub odds_are : is.odds.now ≡ was.odds.now
+  pub pushed : Pushed was.sum was.odds.now was.links.now (heads was) x (heads is) is.links.now
+
+pub record Turns (was is : Aliases) : Type 0 where
+  pub kept : Kept was is
+  pub turned : Turned was.sum was.odds.now was.links.now (heads was) is.odds.now is.links.now (heads is)
+
+pub record Pairs (was is : Aliases) : Type 0 where
+  pub kept : Kept was is
+  pub long : length is.odds.now ≡ length was.odds.now
+  pub links_long : length is.links.now ≡ length was.odds.now
+  pub left : Left (pair_up (length was.odds.now) was.sum (listed was.odds.now was.links.now (heads was))) is.odds.now is.links.now (heads is)
+
+pub record Settled (was : Aliases) (h : ℕ) (is : Aliases) : Type 0 where
+  pub kept : Kept was is
+  pub long : length is.odds.now ≡ length was.odds.now
+  pub links_are : is.links.now ≡ was.links.now
+  pub odds_are : is.odds.now ≡ settle was.sum (chain (length was.odds.now) was.links.now h) was.odds.now

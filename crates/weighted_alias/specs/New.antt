@@ -2,9 +2,10 @@
 use Rattle.std.specs.Prelude.{ℕ, zero, suc, ◌+◌, ◌-◌, ◌*◌, ◌<◌, ◌≤◌, ◌^◌, Bool, cond, ◌||◌, ◌≡◌, List, [], ◌∷◌, map, ltb, length, get_or, set, replicate}
 use Rattle.counting.specs.Sum.{sum_of}
 use Rattle.refusal.specs.Outcome.{Outcome, gave, in_order, leaves}
-use Rattle.refusal.specs.Answers.{weighed_tells}
-use Rattle.refusal.specs.declared.Weighed.{Weighed}
+use Rattle.refusal.specs.Answers.{tells}
 use Rattle.weighted_alias.specs.Tests.{no_slots, too_heavy, no_total, too_many, bad_length}
+use Rattle.std.specs.Prelude.{Result}
+use Rattle.refusal.specs.declared.Refusal.{Refusal}
 
 -- a table in the making: a slot that is not done is on one of two lists
 pub record Making : Type 0 where
@@ -85,8 +86,8 @@ refusals ws odds links =
 unfoldable pub rule : List ℕ → ℕ → ℕ → Outcome ℕ
 rule ws odds links = in_order (refusals ws odds links) (gave (sum_of ws))
 
-pub record Promise (ws odds links : List ℕ) (r : Weighed) (odds_after links_after : List ℕ) : Type 0 where
-  pub answer : weighed_tells r ≡ rule ws (length odds) (length links)
+pub record Promise (ws odds links : List ℕ) (r : Result ℕ Refusal) (odds_after links_after : List ℕ) : Type 0 where
+  pub answer : tells r ≡ rule ws (length odds) (length links)
   pub odds_are : odds_after ≡ leaves (rule ws (length odds) (length links)) (odds_of ws) odds
   pub links_are : links_after ≡ leaves (rule ws (length odds) (length links)) (links_of ws) links
 

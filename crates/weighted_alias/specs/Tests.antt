@@ -2,8 +2,9 @@
 use Rattle.std.specs.Prelude.{ℕ, ◌/◌, Bool, not, ◌≡◌, List, [], ◌∷◌, ltb, eqb, length, get_or}
 use Rattle.counting.specs.Below.{some_below}
 use Rattle.refusal.specs.Outcome.{gave, in_order}
-use Rattle.refusal.specs.Answers.{counted_tells}
-use Rattle.refusal.specs.declared.Counted.{Counted}
+use Rattle.refusal.specs.Answers.{tells}
+use Rattle.std.specs.Prelude.{Result}
+use Rattle.refusal.specs.declared.Refusal.{Refusal}
 
 -- 1: n = 0
 abbrev pub no_slots : ℕ → Bool
@@ -34,5 +35,5 @@ slot_refusals n bad_lengths =
     ∷ []
 
 -- the number of slots
-pub record Slots (n : ℕ) (bad_lengths : Bool) (r : Counted) : Type 0 where
-  pub answer : counted_tells r ≡ in_order (slot_refusals n bad_lengths) (gave n)
+pub record Slots (n : ℕ) (bad_lengths : Bool) (r : Result ℕ Refusal) : Type 0 where
+  pub answer : tells r ≡ in_order (slot_refusals n bad_lengths) (gave n)

@@ -2,9 +2,10 @@
 use Rattle.std.specs.Prelude.{ℕ, Bool, ◌≡◌, List, [], ◌∷◌}
 use Rattle.counting.specs.Sum.{sum_of}
 use Rattle.refusal.specs.Outcome.{Outcome, gave, in_order}
-use Rattle.refusal.specs.Answers.{weighed_tells}
-use Rattle.refusal.specs.declared.Weighed.{Weighed}
+use Rattle.refusal.specs.Answers.{tells}
 use Rattle.weighted_alias.specs.Tests.{too_heavy, no_total}
+use Rattle.std.specs.Prelude.{Result}
+use Rattle.refusal.specs.declared.Refusal.{Refusal}
 
 -- 2, 3
 abbrev pub refusals : List ℕ → List (ℕ × Bool)
@@ -16,5 +17,5 @@ refusals ws =
 unfoldable pub rule : List ℕ → Outcome ℕ
 rule ws = in_order (refusals ws) (gave (sum_of ws))
 
-pub record Promise (ws : List ℕ) (r : Weighed) : Type 0 where
-  pub answer : weighed_tells r ≡ rule ws
+pub record Promise (ws : List ℕ) (r : Result ℕ Refusal) : Type 0 where
+  pub answer : tells r ≡ rule ws

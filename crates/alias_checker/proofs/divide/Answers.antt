@@ -4,4 +4,4 @@ use Rattle.counting.proofs.Below.{filled_all}
 use Rattle.alias_checker.proofs.divide.Goals as goal
 
 pub returns : goal.returns
-returns c = filled_all _ _ _ _ c.loop-i.invariant (omega arith)
+returns c = filled_all _ _ _ _ c.loop-cell.invariant (omega arith)

@@ -1,31 +1,31 @@
 -- It is refused where its number of slots or its weights are, and else fills the table.
-use Rattle.std.proofs.Common.{◌≡◌}
-use Rattle.weighted_alias.proofs.Promised.{lengths, first_differs, first_agrees, new_slots, new_weights, new_fills, new_filled}
+use Rattle.std.proofs.Common.{◌≡◌, rules, tests}
+use Rattle.std.proofs.lemmas.Result.{err_from_is_err_and}
+use Rattle.weighted_alias.proofs.Promised.{lengths, new_slots, new_weights, new_fills, new_filled}
 use Rattle.weighted_alias.proofs.new.Goals as goal
-use Rattle.weighted_alias.proofs.new.Goals.{After-slots, then-odds-n, else-odds-n}
+use Rattle.weighted_alias.proofs.new.Goals.{After-slots}
 
 -- the code's question, whichever of its tests answered it
 differ : (c : After-slots) → c.if-odds-n.slots ≡ lengths c.args.weights.now c.args.odds.now c.args.links.now
-differ c =
-    elim c.if-odds-n.branch [
-      | then-odds-n w ↦ first_differs _ _ _ _ w.if-odds-n.true w.slots-is
-      | else-odds-n w ↦ first_agrees _ _ _ _ w.if-odds-n.false w.slots-is
-    ]
+differ c = grind (rules, tests)
 
-pub returns-in-Refused : goal.returns-in-Refused
-returns-in-Refused c = new_slots _ _ _ c.slots.ensures (differ (goal.at.returns-in-Refused c).After-slots) _ c.in-Refused.is
+pub returns-in_err-slots : goal.returns-in_err-slots
+returns-in_err-slots c =
+    let p = err_from_is_err_and c.from_residual.result c.from_residual.ensures.1 in
+    rw (p.1, p.2) (new_slots _ _ _ c.slots.ensures (differ (goal.at.returns-in_err-slots c).After-slots) _ c.in_err-slots.was)
 
 pub fill-requires : goal.fill-requires
 fill-requires c =
     let same = differ (goal.at.fill-requires c).After-slots in
-    new_fills _ c.args.odds.now c.args.links.now c.slots.ensures same _ c.in-Count.is c.weight_sum.ensures _ c.in-Weight.is
+    new_fills _ c.args.odds.now c.args.links.now c.slots.ensures same _ c.in_ok-slots.was c.weight_sum.ensures _ c.in_ok-sum.was
 
-pub returns-in-Refused-weight_sum : goal.returns-in-Refused-weight_sum
-returns-in-Refused-weight_sum c =
-    let same = differ (goal.at.returns-in-Refused-weight_sum c).After-slots in
-    new_weights _ _ _ c.slots.ensures same _ c.in-Count.is c.weight_sum.ensures _ c.in-Refused-weight_sum.is
+pub returns-in_err-sum : goal.returns-in_err-sum
+returns-in_err-sum c =
+    let same = differ (goal.at.returns-in_err-sum c).After-slots in
+    let p = err_from_is_err_and c.from_residual-in_err-sum.result c.from_residual-in_err-sum.ensures.1 in
+    rw (p.1, p.2) (new_weights _ _ _ c.slots.ensures same _ c.in_ok-slots.was c.weight_sum.ensures _ c.in_err-sum.was)
 
-pub returns-in-Weight : goal.returns-in-Weight
-returns-in-Weight c =
-    let same = differ (goal.at.returns-in-Weight c).After-slots in
-    new_filled _ _ _ c.slots.ensures same _ c.in-Count.is c.weight_sum.ensures _ c.in-Weight.is _ _ c.fill.ensures
+pub returns : goal.returns
+returns c =
+    let same = differ (goal.at.returns c).After-slots in
+    new_filled _ _ _ c.slots.ensures same _ c.in_ok-slots.was c.weight_sum.ensures _ c.in_ok-sum.was _ _ c.fill.ensures

@@ -1,10 +1,7 @@
--- The cells passed are written.
-use Rattle.std.proofs.Common.{◌-◌, ◌*◌, length, get_or}
+-- The odds passed are scaled, the others are the weights.
+use Rattle.std.proofs.Common.{◌*◌, length, get_or}
 use Rattle.counting.proofs.Below.{Filled}
 use Rattle.weighted_alias.proofs.scale.Given as goal
 
-abbrev pub invariant-loop-i : goal.invariant-loop-i
-invariant-loop-i l = Filled (λ k. length l.weights * get_or l.weights k 0) l.fn.odds l.odds l.i
-
-abbrev pub decreases-loop-i : goal.decreases-loop-i
-decreases-loop-i l = length l.weights - l.i
+abbrev pub invariant-loop-odd : goal.invariant-loop-odd
+invariant-loop-odd l = Filled (λ k. length l.weights * get_or l.weights k 0) l.weights l.odds l.odd-index

@@ -1,24 +1,27 @@
 -- No weight so far is too heavy, so their sum is a u64.
+use Rattle.std.proofs.Common.{rules}
 use Rattle.weighted_alias.proofs.Scales.{summing_begins, summing_goes_on, sum_fits, sums_heavy, sums_nothing, sums_something, no_weights}
 use Rattle.weighted_alias.proofs.weight_sum.Goals as goal
 
-pub returns-then-n-eq0 : goal.returns-then-n-eq0
-returns-then-n-eq0 c = record { answer = no_weights _ c.if-n-eq0.true }
+pub returns-then-is_empty : goal.returns-then-is_empty
+returns-then-is_empty c = record { answer = no_weights _ (search rules) }
 
-pub loop-i-init : goal.loop-i-init
-loop-i-init c = summing_begins _
+pub loop-weight-init : goal.loop-weight-init
+loop-weight-init c = summing_begins _
 
 pub returns-then-max_weight_size-weight : goal.returns-then-max_weight_size-weight
-returns-then-max_weight_size-weight c = record { answer = sums_heavy _ _ _ c.loop-i.invariant c.loop-i-test.true c.if-max_weight_size-weight.true }
+returns-then-max_weight_size-weight c =
+    record { answer = sums_heavy _ _ _ c.loop-weight.invariant c.loop-weight-test.true c.if-max_weight_size-weight.true }
 
 pub overflow_add-sum : goal.overflow_add-sum
-overflow_add-sum c = record { fits = sum_fits _ _ _ (summing_goes_on _ _ _ c.loop-i.invariant c.loop-i-test.true c.if-max_weight_size-weight.false) }
+overflow_add-sum c =
+    record { fits = sum_fits _ _ _ (summing_goes_on _ _ _ c.loop-weight.invariant c.loop-weight-test.true c.if-max_weight_size-weight.false) }
 
-pub loop-i-preserved : goal.loop-i-preserved
-loop-i-preserved c = summing_goes_on _ _ _ c.loop-i.invariant c.loop-i-test.true c.if-max_weight_size-weight.false
+pub loop-weight-preserved : goal.loop-weight-preserved
+loop-weight-preserved c = summing_goes_on _ _ _ c.loop-weight.invariant c.loop-weight-test.true c.if-max_weight_size-weight.false
 
 pub returns-then-sum-eq0 : goal.returns-then-sum-eq0
-returns-then-sum-eq0 c = record { answer = sums_nothing _ _ _ c.loop-i.invariant c.loop-i-test.false c.if-sum-eq0.true }
+returns-then-sum-eq0 c = record { answer = sums_nothing _ _ _ c.loop-weight.invariant c.loop-weight-test.false c.if-sum-eq0.true }
 
 pub returns : goal.returns
-returns c = record { answer = sums_something _ _ _ c.loop-i.invariant c.loop-i-test.false c.if-sum-eq0.false }
+returns c = record { answer = sums_something _ _ _ c.loop-weight.invariant c.loop-weight-test.false c.if-sum-eq0.false }
