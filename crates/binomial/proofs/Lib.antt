@@ -1,5 +1,4 @@
--- Laws of the setup, of one attempt and of the draw.
+-- Laws of a power by its bits, of one attempt and of the draw.
 pub mod Powers
-pub mod Setups
 pub mod Attempts
 pub mod Promised

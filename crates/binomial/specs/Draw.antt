@@ -1,7 +1,7 @@
 -- The draw from words: the count that a setup gives, and the words it consumes.
 use Rattle.std.specs.Prelude.{ℕ, ◌-◌, Bool, ◌≡◌, List, [], ◌∷◌, eqb, get_or}
 use Rattle.refusal.specs.Outcome.{Outcome, gave, in_order, consumed}
-use Rattle.refusal.specs.Answers.{drawn_tells}
+use Rattle.refusal.specs.Answers.{tells}
 use Rattle.refusal.specs.declared.Drawing.{Drawing}
 use Rattle.words.specs.First.{first}
 use Rattle.binomial.specs.declared.Binv.{Binv}
@@ -44,6 +44,10 @@ used (method.Binv b) pool = attempts b pool
 unfoldable pub rule : Method → List ℕ → Outcome ℕ
 rule m pool = in_order (refusals m pool) (gave (count m pool))
 
+-- the same with the words beside it
+unfoldable pub drawn : Method → List ℕ → Outcome (ℕ × ℕ)
+drawn m pool = in_order (refusals m pool) (gave (count m pool, used m pool))
+
 pub record Promise (m : Method) (pool : List ℕ) (r : Drawing) : Type 0 where
-  pub answer : drawn_tells r.outcome ≡ rule m pool
+  pub answer : tells r.outcome ≡ rule m pool
   pub words : r.words ≡ consumed (rule m pool) (used m pool)

@@ -1,19 +1,14 @@
 -- The setup from n and p: the method that it gives, or why there is none.
-use Rattle.std.specs.Prelude.{ℕ, Bool, cond, ◌||◌, ◌≡◌, List, [], ◌∷◌, Float}
+use Rattle.std.specs.Prelude.{ℕ, Bool, cond, ◌||◌, ◌≡◌, List, [], ◌∷◌, Float, Result}
 use Rattle.std.specs.Float.{binary64}
 use Rattle.std.specs.Float.Ieee.{mul, lt, le, eq, is_nan}
-use Rattle.refusal.specs.Number.{number}
-use Rattle.refusal.specs.Outcome.{Outcome, gave, refused, in_order}
+use Rattle.refusal.specs.Outcome.{Outcome, gave, in_order}
+use Rattle.refusal.specs.Answers.{tells}
+use Rattle.refusal.specs.declared.Refusal.{Refusal}
 use Rattle.binomial.specs.declared.Method.{Method}
 use Rattle.binomial.specs.declared.Method.TheVariants.{Constant, Binv}
-use Rattle.binomial.specs.declared.Made.{Made}
-use Rattle.binomial.specs.declared.Made.TheVariants as made
 use Rattle.binomial.specs.Tests.{too_many_trials}
 use Rattle.binomial.specs.Setup.{nought, one, ten, whole, smaller, complement, binv_of}
-
-abbrev pub tells : Made → Outcome Method
-tells (made.Setup m) = gave m
-tells (made.Refused r) = refused (number r)
 
 -- 5: p is below 0 or NaN (minus zero is 0)
 abbrev pub too_small : Float → Bool
@@ -56,5 +51,5 @@ later_rule n p = in_order (later_refusals n p) (gave (Binv (binv_of n p)))
 unfoldable pub rule : ℕ → Float → Outcome Method
 rule n p = in_order (refusals n p) (constants n p (later_rule n p))
 
-pub record Promise (n : ℕ) (p : Float) (r : Made) : Type 0 where
+pub record Promise (n : ℕ) (p : Float) (r : Result Method Refusal) : Type 0 where
   pub answer : tells r ≡ rule n p

@@ -3,13 +3,14 @@
 #![tactic(auto)]
 
 ghost use Rattle.std.specs.Prelude.{◌≡◌, ◌≤◌};
+ghost use Rattle.refusal.specs.Answers.{tells};
 ghost use Rattle.binomial.specs.Setup as setup;
 ghost use Rattle.binomial.specs.New as new;
 ghost use Rattle.binomial.specs.Numbers as numbers;
 ghost use Rattle.binomial.specs.Attempt as attempt;
 ghost use Rattle.binomial.specs.Draw as draw;
 
-use refusal::{Drawing, Drawn, Refusal};
+use refusal::{Drawing, Refusal};
 
 // The most trials that a setup can have.
 pub const MOST_TRIALS: u64 = 1048576;
@@ -19,7 +20,7 @@ const MOST_SUCCESSES: u64 = 110;
 
 // What BINV needs: the chance r of no success, s and a for the step from one count to the next, the number of trials, and
 // whether successes and failures are exchanged.
-#[derive(Clone, Copy)]
+#[derive(Clone, Copy, Debug, PartialEq)]
 pub struct Binv {
     pub r: f64,
     pub s: f64,
@@ -29,22 +30,15 @@ pub struct Binv {
 }
 
 // How a setup draws.
-#[derive(Clone, Copy)]
+#[derive(Clone, Copy, Debug, PartialEq)]
 pub enum Method {
     Constant(u64),
     Binv(Binv),
 }
 
-// The setup that was made.
-#[derive(Clone, Copy)]
-pub enum Made {
-    Setup(Method),
-    Refused(Refusal),
-}
-
 // A setup as numbers: 0, or the number of the refusal; 0 for a constant and 1 for BINV; the constant, or n; the bits of r, s
 // and a; 1 where it is flipped. What a setup does not have is 0.
-#[derive(Clone, Copy)]
+#[derive(Clone, Copy, Debug, Default, PartialEq, Eq)]
 pub struct SetupNumbers {
     pub number: u64,
     pub kind: u64,
@@ -55,19 +49,14 @@ pub struct SetupNumbers {
     pub flip: u64,
 }
 
-impl Method {
-    pub fn numbers(self) -> SetupNumbers
-        ensures { result ≡ numbers.method_numbers self }
-    {
-        match self {
+impl From<Method> for SetupNumbers {
+    ghost from_gives = { λ method told. told ≡ numbers.method_numbers method };
+
+    fn from(method: Method) -> SetupNumbers {
+        match method {
             Method::Constant(count) => SetupNumbers {
-                number: 0,
-                kind: 0,
                 n: count,
-                r: 0,
-                s: 0,
-                a: 0,
-                flip: 0,
+                ..SetupNumbers::default()
             },
             Method::Binv(b) => SetupNumbers {
                 number: 0,
@@ -76,36 +65,77 @@ impl Method {
                 r: words::bits_of(b.r),
                 s: words::bits_of(b.s),
                 a: words::bits_of(b.a),
-                flip: if b.flip { 1 } else { 0 },
+                flip: u64::from(b.flip),
             },
         }
     }
 }
 
-impl Made {
-    pub fn numbers(self) -> SetupNumbers
-        ensures { result ≡ numbers.in_numbers (new.tells self) }
-    {
-        match self {
-            Made::Setup(method) => method.numbers(),
-            Made::Refused(r) => SetupNumbers {
+impl From<Result<Method, Refusal>> for SetupNumbers {
+    ghost from_gives = { λ answer told. told ≡ numbers.in_numbers (tells answer) };
+
+    fn from(answer: Result<Method, Refusal>) -> SetupNumbers {
+        match answer {
+            Ok(method) => SetupNumbers::from(method),
+            Err(r) => SetupNumbers {
                 number: r.number(),
-                kind: 0,
-                n: 0,
-                r: 0,
-                s: 0,
-                a: 0,
-                flip: 0,
+                ..SetupNumbers::default()
             },
         }
     }
 }
 
-// What an attempt comes to.
-#[derive(Clone, Copy)]
-pub enum Attempt {
-    Ended(u64),
-    GaveUp,
+// What the numbers of a setup stand for, whatever they are: kind 0 is a constant and any other BINV, and any flip but 0 flips. The
+// number is not looked at.
+impl From<SetupNumbers> for Method {
+    ghost from_gives = { λ told method. method ≡ numbers.method_of told };
+
+    fn from(told: SetupNumbers) -> Method {
+        match told.kind {
+            0 => Method::Constant(told.n),
+            _ => Method::Binv(Binv {
+                r: words::float_of(told.r),
+                s: words::float_of(told.s),
+                a: words::float_of(told.a),
+                n: told.n,
+                flip: told.flip != 0,
+            }),
+        }
+    }
+}
+
+// A setup in seven cells, in the order of its numbers.
+impl From<SetupNumbers> for [u64; 7] {
+    ghost from_gives = { λ told cells. cells ≡ numbers.seven told };
+
+    fn from(told: SetupNumbers) -> [u64; 7] {
+        [
+            told.number,
+            told.kind,
+            told.n,
+            told.r,
+            told.s,
+            told.a,
+            told.flip,
+        ]
+    }
+}
+
+impl From<[u64; 7]> for SetupNumbers {
+    ghost from_gives = { λ cells told. told ≡ numbers.of_seven cells };
+
+    fn from(cells: [u64; 7]) -> SetupNumbers {
+        let [number, kind, n, r, s, a, flip] = cells;
+        SetupNumbers {
+            number,
+            kind,
+            n,
+            r,
+            s,
+            a,
+            flip,
+        }
+    }
 }
 
 // q to the power n, by the bits of n from the lowest up.
@@ -117,110 +147,107 @@ fn power(q: f64, n: u64) -> f64
     let mut bits = n;
     while 0 < bits {
         if bits % 2 == 1 {
-            made = made * current;
+            made *= current;
         }
-        current = current * current;
-        bits = bits / 2;
+        current *= current;
+        bits /= 2;
     }
     made
 }
 
 // The numbers of BINV for n trials of a chance that is neither 0 nor 1.
-fn set_up(n: u64, p: f64) -> Made
+fn set_up(n: u64, p: f64) -> Result<Method, Refusal>
     requires { n ≤ 1048576 }
-    ensures { new.tells result ≡ new.later_rule n p }
+    ensures { tells result ≡ new.later_rule n p }
 {
     let flip = p > 0.5;
     let smaller = if flip { 1.0 - p } else { p };
     if (n as f64) * smaller >= 10.0 {
-        return Made::Refused(Refusal::NeedsBtpe);
+        return Err(Refusal::NeedsBtpe);
     }
     let q = 1.0 - smaller;
     if q == 1.0 {
-        return Made::Refused(Refusal::NeedsPoisson);
+        return Err(Refusal::NeedsPoisson);
     }
     let r = power(q, n);
     let s = smaller / q;
     let a = ((n + 1) as f64) * s;
-    Made::Setup(Method::Binv(Binv { r, s, a, n, flip }))
+    Ok(Method::Binv(Binv { r, s, a, n, flip }))
 }
 
 // The setup for n trials of the chance p.
-pub fn new(n: u64, p: f64) -> Made
+#[tactic(auto, unfolding(crate::specs::New::rule))]
+pub fn new(n: u64, p: f64) -> Result<Method, Refusal>
     ensures { new.Promise n p result }
 {
-    if p < 0.0 || p != p {
-        return Made::Refused(Refusal::ProbabilityTooSmall);
+    if p < 0.0 || p.is_nan() {
+        return Err(Refusal::ProbabilityTooSmall);
     }
     if p > 1.0 {
-        return Made::Refused(Refusal::ProbabilityTooLarge);
+        return Err(Refusal::ProbabilityTooLarge);
     }
     if n > MOST_TRIALS {
-        return Made::Refused(Refusal::TooManyTrials);
+        return Err(Refusal::TooManyTrials);
     }
     if p == 0.0 {
-        return Made::Setup(Method::Constant(0));
+        return Ok(Method::Constant(0));
     }
     if p == 1.0 {
-        return Made::Setup(Method::Constant(n));
+        return Ok(Method::Constant(n));
     }
     set_up(n, p)
 }
 
-// One attempt: goes up from 0 while what is left of the unit is above the chance of the count.
-fn try_unit(b: Binv, unit: f64) -> Attempt
-    ensures { result ≡ attempt.attempt_of b unit }
-{
-    let mut u = unit;
-    let mut r = b.r;
-    let mut x: u64 = 0;
-    while u > r {
-        u = u - r;
-        x = x + 1;
-        if x > MOST_SUCCESSES || x > b.n {
-            return Attempt::GaveUp;
-        }
-        r = r * (b.a / (x as f64) - b.s);
-    }
-    Attempt::Ended(x)
-}
-
-// Attempts with one word after the other until one ends.
-fn invert(b: Binv, pool: &[u64]) -> Drawing
-    requires { b.n ≤ 1048576 }
-    ensures { draw.Promise (Method.Binv b) pool.now result }
-{
-    let mut made = 0;
-    while made < pool.len() {
-        let unit = words::unit(pool[made]);
-        made = made + 1;
-        match try_unit(b, unit) {
-            Attempt::Ended(x) => {
-                let count = if b.flip { b.n - x } else { x };
-                return Drawing::new(Drawn::Index(count as usize), made);
+impl Binv {
+    // One attempt: goes up from 0 while what is left of the unit is above the chance of the count, which a NaN is not. Past
+    // the most successes, or past n, it gives up.
+    fn try_unit(self, unit: f64) -> Option<u64>
+        ensures { result ≡ attempt.attempt_of self unit }
+    {
+        let mut u = unit;
+        let mut r = self.r;
+        for x in 0..=self.n.min(MOST_SUCCESSES) {
+            if !(u > r) {
+                return Some(x);
             }
-            Attempt::GaveUp => {}
+            u -= r;
+            r *= self.a / ((x + 1) as f64) - self.s;
         }
+        None
     }
-    Drawing::new(Drawn::Refused(Refusal::OutOfWords), 0)
+
+    // Attempts with one word after the other until one ends: the count, and how many words it took.
+    fn invert(self, pool: &[u64]) -> Result<(usize, usize), Refusal>
+        requires { self.n ≤ 1048576 }
+        ensures { tells result ≡ draw.drawn (Method.Binv self) pool.now }
+    {
+        for (i, word) in pool.iter().enumerate() {
+            if let Some(x) = self.try_unit(words::unit(*word)) {
+                let count = if self.flip { self.n - x } else { x };
+                return Ok((count as usize, i + 1));
+            }
+        }
+        Err(Refusal::OutOfWords)
+    }
 }
 
-// The count that a setup draws from the words of a pool. What is drawn stands as `Index` in the answer, as in every draw.
+// The count that a setup draws from the words of a pool, and how many words it took.
+#[tactic(auto, unfolding(crate::specs::Draw::drawn))]
+fn drawn(method: Method, pool: &[u64]) -> Result<(usize, usize), Refusal>
+    ensures { tells result ≡ draw.drawn method pool.now }
+{
+    match method {
+        Method::Constant(n) | Method::Binv(Binv { n, .. }) if n > MOST_TRIALS => {
+            Err(Refusal::TooManyTrials)
+        }
+        Method::Constant(count) => Ok((count as usize, 0)),
+        Method::Binv(b) => b.invert(pool),
+    }
+}
+
+// The count that a setup draws from the words of a pool.
 pub fn draw(method: Method, pool: &[u64]) -> Drawing
     ensures { draw.Promise method pool.now result }
 {
-    match method {
-        Method::Constant(count) => {
-            if count > MOST_TRIALS {
-                return Drawing::new(Drawn::Refused(Refusal::TooManyTrials), 0);
-            }
-            Drawing::new(Drawn::Index(count as usize), 0)
-        }
-        Method::Binv(b) => {
-            if b.n > MOST_TRIALS {
-                return Drawing::new(Drawn::Refused(Refusal::TooManyTrials), 0);
-            }
-            invert(b, pool)
-        }
-    }
+    Drawing::from(drawn(method, pool))
 }

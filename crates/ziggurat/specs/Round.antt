@@ -1,31 +1,20 @@
 -- One ziggurat round over the tables X and F: what it ends with, and the words it consumes.
-use Rattle.std.specs.Prelude.{ℕ, ◌+◌, ◌%◌, ◌<◌, Bool, false, cond, not, ◌||◌, ◌≡◌, List, [], ◌∷◌, ltb, eqb, length, get_or, Float}
+use Rattle.std.specs.Prelude.{ℕ, ◌+◌, ◌%◌, Bool, false, cond, not, ◌||◌, ◌≡◌, List, [], ◌∷◌, ltb, eqb, length, get_or, Float, Result}
 use Rattle.std.specs.Float.{nan, inf, fin, binary64}
 use Rattle.std.specs.Float.Ieee.{add, sub, mul, lt}
-use Rattle.refusal.specs.Number.{number}
+use Rattle.refusal.specs.Answers.{tells}
+use Rattle.refusal.specs.declared.Refusal.{Refusal}
 use Rattle.refusal.specs.Outcome.{Outcome, gave, refused, in_order, consumed}
 use Rattle.words.specs.Floats.{unit, symmetric_u, one_sided_u}
 use Rattle.ziggurat.specs.declared.Rounded.{Rounded}
-use Rattle.ziggurat.specs.declared.Rounded.TheVariants as rounded
+use Rattle.ziggurat.specs.declared.Rounded.TheVariants.{Sample, Tail, Wedge}
 use Rattle.ziggurat.specs.declared.Rounding.{Rounding}
 
--- a finished sample with x, a tail with u, or a wedge with x and the height
-pub data Shape : Type 0 where
-  sample : Float → Shape
-  tail : Float → Shape
-  wedge : Float → Float → Shape
-
-abbrev pub tells : Rounded → Outcome Shape
-tells (rounded.Sample x) = gave (sample x)
-tells (rounded.Tail u) = gave (tail u)
-tells (rounded.Wedge x height) = gave (wedge x height)
-tells (rounded.Refused r) = refused (number r)
-
 -- the words of each: 1, 1 or 2
-abbrev pub words_of : Shape → ℕ
-words_of (sample x) = 1
-words_of (tail u) = 1
-words_of (wedge x height) = 2
+abbrev pub words_of : Rounded → ℕ
+words_of (Sample x) = 1
+words_of (Tail u) = 1
+words_of (Wedge x height) = 2
 
 -- of a word, i is the low 8 bits
 abbrev pub layer : ℕ → ℕ
@@ -50,13 +39,13 @@ height_of F i v = add binary64 (get_or F (i + 1) nan) (mul binary64 (sub binary6
 
 -- x = u * X[i]. If x (its magnitude, symmetric) is below X[i+1], the answer is x. Else for i = 0 it is the tail with u. Else the wedge: x with the
 -- height that v gives.
-unfoldable pub shape_of : Bool → List Float → List Float → Float → ℕ → Float → Shape
+unfoldable pub shape_of : Bool → List Float → List Float → Float → ℕ → Float → Rounded
 shape_of symmetric X F u i v =
     let x = mul binary64 u (get_or X i nan) in
-    cond (inside symmetric x (get_or X (i + 1) nan)) (sample x) (cond (eqb i 0) (tail u) (wedge x (height_of F i v)))
+    cond (inside symmetric x (get_or X (i + 1) nan)) (Sample x) (cond (eqb i 0) (Tail u) (Wedge x (height_of F i v)))
 
 -- u and i are of the pool's first word, and v is the next word's unit
-abbrev pub shape : Bool → List Float → List Float → List ℕ → Shape
+abbrev pub shape : Bool → List Float → List Float → List ℕ → Rounded
 shape symmetric X F pool =
     let w = get_or pool 0 0 in
     shape_of symmetric X F (u_of symmetric w) (layer w) (unit (get_or pool 1 0))
@@ -76,7 +65,7 @@ refusals symmetric X F pool =
     ∷ (12, too_few symmetric X F pool)
     ∷ []
 
-unfoldable pub rule : Bool → List Float → List Float → List ℕ → Outcome Shape
+unfoldable pub rule : Bool → List Float → List Float → List ℕ → Outcome Rounded
 rule symmetric X F pool = in_order (refusals symmetric X F pool) (gave (shape symmetric X F pool))
 
 pub record Promise (symmetric : Bool) (X F : List Float) (pool : List ℕ) (r : Rounding) : Type 0 where
@@ -85,23 +74,14 @@ pub record Promise (symmetric : Bool) (X F : List Float) (pool : List ℕ) (r : 
 
 -- ---- the parts of a round
 -- the words that a round used, by how it ended
-abbrev pub used_by : Outcome Shape → ℕ
+abbrev pub used_by : Outcome Rounded → ℕ
 used_by (gave s) = words_of s
 used_by (refused k) = 0
 
-pub record Ended (o : Rounded) (r : Rounding) : Type 0 where
+pub record Ended (o : Result Rounded Refusal) (r : Rounding) : Type 0 where
   pub same : r.outcome ≡ o
   pub words : r.words ≡ consumed (tells o) (used_by (tells o))
 
--- the tables have their length and the pool has a word: what is left is 12 for a wedge
-pub record Begins (edges densities pool : ℕ) : Type 0 where
-  pub edges_long : edges ≡ 257
-  pub densities_long : densities ≡ 257
-  pub some : 0 < pool
-
-unfoldable pub later_rule : Bool → List Float → List Float → List ℕ → Outcome Shape
-later_rule symmetric X F pool = in_order ((12, too_few symmetric X F pool) ∷ []) (gave (shape symmetric X F pool))
-
 -- the wedge of layer i with x
-abbrev pub wedge_rule : List Float → ℕ → Float → List ℕ → Outcome Shape
-wedge_rule F i x pool = in_order ((12, ltb (length pool) 2) ∷ []) (gave (wedge x (height_of F i (unit (get_or pool 1 0)))))
+abbrev pub wedge_rule : List Float → ℕ → Float → List ℕ → Outcome Rounded
+wedge_rule F i x pool = in_order ((12, ltb (length pool) 2) ∷ []) (gave (Wedge x (height_of F i (unit (get_or pool 1 0)))))

@@ -3,6 +3,7 @@
 #![tactic(auto)]
 
 ghost use Rattle.std.specs.Prelude.{◌≡◌, ◌+◌, ◌<◌, length};
+ghost use Rattle.refusal.specs.Answers.{tells};
 ghost use Rattle.ziggurat.specs.Round as round;
 ghost use Rattle.ziggurat.specs.Numbers as numbers;
 
@@ -12,24 +13,23 @@ use refusal::Refusal;
 pub const TABLE_LENGTH: usize = 257;
 
 // What a round ends with: a sample with x, a tail with u, or a wedge with x and the height.
-#[derive(Clone, Copy)]
+#[derive(Clone, Copy, Debug, PartialEq)]
 pub enum Rounded {
     Sample(f64),
     Tail(f64),
     Wedge(f64, f64),
-    Refused(Refusal),
 }
 
 // A round, with the words that it consumed.
-#[derive(Clone, Copy)]
+#[derive(Clone, Copy, Debug, PartialEq)]
 pub struct Rounding {
-    pub outcome: Rounded,
+    pub outcome: Result<Rounded, Refusal>,
     pub words: usize,
 }
 
 // A round as numbers: 0, or the number of the refusal; 1 for a sample, 2 for a tail and 3 for a wedge; the bits of its floats;
 // the words. What a round does not have is 0.
-#[derive(Clone, Copy)]
+#[derive(Clone, Copy, Debug, Default, PartialEq, Eq)]
 pub struct RoundNumbers {
     pub number: u64,
     pub kind: u64,
@@ -38,65 +38,76 @@ pub struct RoundNumbers {
     pub words: u64,
 }
 
-impl Rounding {
-    // How a round ended says how many words it took.
-    fn new(outcome: Rounded) -> Rounding
-        ensures { round.Ended outcome result }
+impl Rounded {
+    // The words that a round takes.
+    fn words(self) -> usize
+        ensures { result ≡ round.words_of self }
     {
-        match outcome {
-            Rounded::Sample(_) => Rounding { outcome, words: 1 },
-            Rounded::Tail(_) => Rounding { outcome, words: 1 },
-            Rounded::Wedge(_, _) => Rounding { outcome, words: 2 },
-            Rounded::Refused(_) => Rounding { outcome, words: 0 },
+        match self {
+            Rounded::Sample(_) | Rounded::Tail(_) => 1,
+            Rounded::Wedge(_, _) => 2,
         }
     }
+}
 
-    pub fn numbers(self) -> RoundNumbers
-        ensures { result ≡ numbers.round_numbers self }
+impl Rounding {
+    // How a round ended says how many words it took.
+    fn new(outcome: Result<Rounded, Refusal>) -> Rounding
+        ensures { round.Ended outcome result }
     {
-        let used = self.words as u64;
-        let outcome = self.outcome;
-        match outcome {
-            Rounded::Sample(x) => RoundNumbers {
-                number: 0,
+        let words = outcome.map_or(0, Rounded::words);
+        Rounding { outcome, words }
+    }
+}
+
+impl From<Rounding> for RoundNumbers {
+    ghost from_gives = { λ rounding told. told ≡ numbers.round_numbers rounding };
+
+    fn from(rounding: Rounding) -> RoundNumbers {
+        let none = RoundNumbers {
+            words: rounding.words as u64,
+            ..RoundNumbers::default()
+        };
+        match rounding.outcome {
+            Ok(Rounded::Sample(x)) => RoundNumbers {
                 kind: 1,
                 first: words::bits_of(x),
-                second: 0,
-                words: used,
+                ..none
             },
-            Rounded::Tail(u) => RoundNumbers {
-                number: 0,
+            Ok(Rounded::Tail(u)) => RoundNumbers {
                 kind: 2,
                 first: words::bits_of(u),
-                second: 0,
-                words: used,
+                ..none
             },
-            Rounded::Wedge(x, height) => RoundNumbers {
-                number: 0,
+            Ok(Rounded::Wedge(x, height)) => RoundNumbers {
                 kind: 3,
                 first: words::bits_of(x),
                 second: words::bits_of(height),
-                words: used,
+                ..none
             },
-            Rounded::Refused(r) => RoundNumbers {
+            Err(r) => RoundNumbers {
                 number: r.number(),
-                kind: 0,
-                first: 0,
-                second: 0,
-                words: used,
+                ..none
             },
         }
     }
 }
 
+// A round in five cells, in the order of its numbers.
+impl From<RoundNumbers> for [u64; 5] {
+    ghost from_gives = { λ told cells. cells ≡ numbers.five told };
+
+    fn from(told: RoundNumbers) -> [u64; 5] {
+        [told.number, told.kind, told.first, told.second, told.words]
+    }
+}
+
 // Whether x, or its magnitude where symmetric, is below the edge.
+#[tactic(auto, using(crate::proofs::Magnitude::magnitude_is))]
 fn inside(symmetric: bool, x: f64, edge: f64) -> bool
     ensures { result ≡ round.inside symmetric x edge }
 {
-    if symmetric && x < 0.0 {
-        return -x < edge;
-    }
-    x < edge
+    if symmetric { x.abs() < edge } else { x < edge }
 }
 
 // The u of a word.
@@ -111,46 +122,47 @@ fn u_of(symmetric: bool, word: u64) -> f64
 }
 
 // The wedge of layer i, which takes the pool's second word.
-fn wedge(densities: &[f64], i: usize, x: f64, pool: &[u64]) -> Rounded
+fn wedge(densities: &[f64], i: usize, x: f64, pool: &[u64]) -> Result<Rounded, Refusal>
     requires { i + 1 < length densities.now }
-    ensures { round.tells result ≡ round.wedge_rule densities.now i x pool.now }
+    ensures { tells result ≡ round.wedge_rule densities.now i x pool.now }
 {
-    if pool.len() < 2 {
-        return Rounded::Refused(Refusal::OutOfWords);
-    }
-    let v = words::unit(pool[1]);
+    let word = pool.get(1).ok_or(Refusal::OutOfWords)?;
+    let v = words::unit(*word);
     let low = densities[i + 1];
     let high = densities[i];
-    Rounded::Wedge(x, low + (high - low) * v)
+    Ok(Rounded::Wedge(x, low + (high - low) * v))
 }
 
-// What a round of a pool that has a word ends with.
-fn round_of(edges: &[f64], densities: &[f64], symmetric: bool, pool: &[u64]) -> Rounded
-    requires { round.Begins (length edges.now) (length densities.now) (length pool.now) }
-    ensures { round.tells result ≡ round.later_rule symmetric edges.now densities.now pool.now }
+// The round that the words of a pool make, or why there is none.
+#[tactic(auto, unfolding(crate::specs::Round::rule, crate::specs::Round::shape_of))]
+fn make_round(
+    edges: &[f64],
+    densities: &[f64],
+    symmetric: bool,
+    pool: &[u64],
+) -> Result<Rounded, Refusal>
+    ensures { tells result ≡ round.rule symmetric edges.now densities.now pool.now }
 {
-    let word = pool[0];
+    if edges.len() != TABLE_LENGTH || densities.len() != TABLE_LENGTH {
+        return Err(Refusal::BadLength);
+    }
+    let word = *pool.first().ok_or(Refusal::OutOfWords)?;
     let i = (word % 256) as usize;
     let u = u_of(symmetric, word);
     let x = u * edges[i];
     if inside(symmetric, x, edges[i + 1]) {
-        return Rounded::Sample(x);
+        return Ok(Rounded::Sample(x));
     }
     if i == 0 {
-        return Rounded::Tail(u);
+        return Ok(Rounded::Tail(u));
     }
     wedge(densities, i, x, pool)
 }
 
 // The round that the words of a pool make.
+#[tactic(auto, using(crate::proofs::Promised::round_ends))]
 pub fn round(edges: &[f64], densities: &[f64], symmetric: bool, pool: &[u64]) -> Rounding
     ensures { round.Promise symmetric edges.now densities.now pool.now result }
 {
-    if edges.len() != TABLE_LENGTH || densities.len() != TABLE_LENGTH {
-        return Rounding::new(Rounded::Refused(Refusal::BadLength));
-    }
-    if pool.len() == 0 {
-        return Rounding::new(Rounded::Refused(Refusal::OutOfWords));
-    }
-    Rounding::new(round_of(edges, densities, symmetric, pool))
+    Rounding::new(make_round(edges, densities, symmetric, pool))
 }
