@@ -1,16 +1,24 @@
 // The example of the README: a tree is made, changed and drawn from.
 #![tactic(auto)]
 
+use refusal::Refusal;
 use std::io;
 
+// A tree of three slots gets a fourth, and two words draw a slot.
+fn drawn_slot(store: &mut [u64]) -> Result<usize, Refusal> {
+    let count = weighted_tree::new(store, &[72, 18, 128])?; // 3
+    let count = weighted_tree::push(store, count, 32)?; // 4
+    let words = [0x9e37_79b9_7f4a_7c15, 3];
+    weighted_tree::draw(store, count, &words).outcome
+}
+
 fn main(rt: HostRuntime) -> io::Result<()> {
-    let mut store = [0u64; 8];
-    let weights = [72u64, 18, 128];
-    let words = [0x9e37_79b9_7f4a_7c15u64, 3];
-    weighted_tree::new(&mut store, &weights); // Count(3)
-    weighted_tree::push(&mut store, 3, 32); // Count(4)
-    let drawn = weighted_tree::draw(&store, 4, &words).numbers(); // 0, the slot, the words used
-    println!(rt; "{}", drawn.first)?;
-    let refused = weighted_tree::get(&store, 4, 9).numbers(); // 8, a bad index, and zeros
-    println!(rt; "{}", refused.number)
+    let mut store = [0; 8];
+    if let Ok(slot) = drawn_slot(&mut store) {
+        println!(rt; "{slot}")?; // 0
+    }
+    if let Err(refusal) = weighted_tree::get(&store, 4, 9) {
+        println!(rt; "{}", refusal.number())?; // 8, a bad index
+    }
+    Ok(())
 }

@@ -7,12 +7,11 @@ use mathlib.Core.Logic.{◌⊎◌}
 use mathlib.Core.List.{List}
 use lib.Dec.{ltb, eqb}
 use lib.ListN.{length, get_or, replicate}
+use Rattle.std.specs.Prelude.{Result}
 use Rattle.counting.specs.Sum.{sum_of, exceeds_u64}
 use Rattle.refusal.specs.Outcome.{refused}
-use Rattle.refusal.specs.Answers.{said_tells, counted_tells, weighed_tells, drawn_tells}
-use Rattle.refusal.specs.declared.Said.{Said}
-use Rattle.refusal.specs.declared.Counted.{Counted}
-use Rattle.refusal.specs.declared.Weighed.{Weighed}
+use Rattle.refusal.specs.Answers.{tells}
+use Rattle.refusal.specs.declared.Refusal.{Refusal}
 use Rattle.refusal.specs.declared.Drawing.{Drawing}
 use Rattle.words.specs.Below.{place}
 use Rattle.weighted_alias.specs.Tests.{too_heavy, bad_length, slot_refusals, Slots}
@@ -24,7 +23,7 @@ use Rattle.alias_checker.specs.Shares.{lent, far}
 use Rattle.alias_checker.specs.Check as check
 use Rattle.alias_checker.specs.Weights as weights
 use Rattle.promises.specs.Rows.{Differs, TooHeavy, Exceeds, GivenBy, RefusedBy, SlotRows, WeightSumRows, AliasNewRows, AliasDrawRows, AliasCheckRows, AliasWeightsRows}
-use Rattle.promises.proofs.Rows.{Says, says_less, says_most, says_is, says_not, says_or, says_and, says_some, rows_given, rows_kept}
+use Rattle.promises.proofs.Rows.{Says, says_itself, says_less, says_most, says_is, says_not, says_or, says_and, says_some, rows_given, rows_kept}
 use Rattle.promises.proofs.TreeTable.{says_exceeds, says_no_word}
 
 -- ---- what each test says
@@ -40,17 +39,17 @@ unfolding far_link
 says_far odds links c t = says_and _ _ (says_most (get_or odds c 0) t) (says_most (length odds) (get_or links c 0))
 
 -- ---- the calls
-pub slots_table : {n : ℕ} {unequal : Bool} {r : Counted} → Slots n unequal r → GivenBy (SlotRows n (unequal ≡ true)) (counted_tells r)
+pub slots_table : {n : ℕ} {unequal : Bool} {r : Result ℕ Refusal} → Slots n unequal r → GivenBy (SlotRows n (unequal ≡ true)) (tells r)
 slots_table {n} {unequal} {r} p =
     rows_given _ _ (slot_refusals n unequal) (SlotRows n (unequal ≡ true)) p.answer
-    (refl, says_is n 0, (refl, says_less 4096 n, (refl, (λ e. e, λ e. e), tt)))
+    (refl, says_is n 0, (refl, says_less 4096 n, (refl, says_itself unequal, tt)))
 
-pub weight_sum_table : {ws : List ℕ} {r : Weighed} → weight_sum.Promise ws r → GivenBy (WeightSumRows ws) (weighed_tells r)
+pub weight_sum_table : {ws : List ℕ} {r : Result ℕ Refusal} → weight_sum.Promise ws r → GivenBy (WeightSumRows ws) (tells r)
 unfolding weight_sum.rule
 weight_sum_table {ws} {r} p =
     rows_given _ _ (weight_sum.refusals ws) (WeightSumRows ws) p.answer (refl, says_heavy ws, (refl, says_is (sum_of ws) 0, tt))
 
-pub new_table : {ws odds links odds_after links_after : List ℕ} {r : Weighed} → new.Promise ws odds links r odds_after links_after → RefusedBy {B = List ℕ × List ℕ} (AliasNewRows ws (length odds) (length links)) (weighed_tells r) (odds, links) (odds_after, links_after)
+pub new_table : {ws odds links odds_after links_after : List ℕ} {r : Result ℕ Refusal} → new.Promise ws odds links r odds_after links_after → RefusedBy {B = List ℕ × List ℕ} (AliasNewRows ws (length odds) (length links)) (tells r) (odds, links) (odds_after, links_after)
 unfolding new.rule
 new_table {ws} {odds} {links} {odds_after} {links_after} {r} p =
     record {
@@ -62,20 +61,20 @@ new_table {ws} {odds} {links} {odds_after} {links_after} {r} p =
     }
 
 -- a refused draw consumes no words
-pub draw_table : {odds links pool : List ℕ} {S : ℕ} {r : Drawing} → draw.Promise odds links S pool r → RefusedBy (AliasDrawRows odds links S pool) (drawn_tells r.outcome) 0 r.words
+pub draw_table : {odds links pool : List ℕ} {S : ℕ} {r : Drawing} → draw.Promise odds links S pool r → RefusedBy (AliasDrawRows odds links S pool) (tells r.outcome) 0 r.words
 unfolding draw.rule
 draw_table {odds} {links} {pool} {S} {r} p =
     rows_kept _ _ (draw.refusals odds links S pool) (AliasDrawRows odds links S pool) (place (length odds) pool + place S (draw.after (length odds) pool)) 0 r.words p.answer p.words
     (refl, says_is _ 0, (refl, says_less 4096 _, (refl, says_differs _ _, (refl, says_is S 0, (refl, says_or _ _ (says_no_word _ pool) (says_no_word S _), (refl, says_far odds links _ _, tt))))))
 
-pub check_table : {ws odds links work after : List ℕ} {r : Said} → check.Promise ws odds links work r after → RefusedBy (AliasCheckRows ws (length odds) (length links) (length work)) (said_tells r) work after
+pub check_table : {ws odds links work after : List ℕ} {r : Result Bool Refusal} → check.Promise ws odds links work r after → RefusedBy (AliasCheckRows ws (length odds) (length links) (length work)) (tells r) work after
 unfolding check.rule
 check_table {ws} {odds} {links} {work} {after} {r} p =
     rows_kept _ _ (check.refusals ws (length odds) (length links) (length work)) (AliasCheckRows ws (length odds) (length links) (length work)) (check.changed ws odds links) work after p.answer p.work_is
     (refl, says_is _ 0, (refl, says_less 4096 _, (refl, says_or _ _ (says_or _ _ (says_differs _ _) (says_differs _ _)) (says_differs _ _), (refl, says_heavy ws, (refl, says_is (sum_of ws) 0, tt)))))
 
 -- a table that is damaged leaves n zeros, and every other refusal what was there
-pub weights_table : {odds links output after : List ℕ} {S : ℕ} {r : Counted} → weights.Promise odds links S output r after → GivenBy (AliasWeightsRows odds links S (length output)) (counted_tells r)
+pub weights_table : {odds links output after : List ℕ} {S : ℕ} {r : Result ℕ Refusal} → weights.Promise odds links S output r after → GivenBy (AliasWeightsRows odds links S (length output)) (tells r)
 unfolding weights.rule weights.damaged
 weights_table {odds} {links} {output} {after} {S} {r} p =
     rows_given _ _ (weights.refusals odds links S (length output)) (AliasWeightsRows odds links S (length output)) p.answer
@@ -86,5 +85,5 @@ weights_table {odds} {links} {output} {after} {S} {r} p =
         says_or _ _ (says_some (length odds) (far odds links S) (λ j. says_and _ _ (says_less (get_or odds j 0) S) (says_most (length odds) (get_or links j 0))))
         (says_some (length odds) (λ i. exceeds_u64 (get_or odds i 0 + lent odds links S i)) (λ i. says_exceeds (get_or odds i 0 + lent odds links S i)))
 
-pub weights_leaves : {odds links output after : List ℕ} {S : ℕ} {r : Counted} → weights.Promise odds links S output r after → (k : ℕ) → counted_tells r ≡ refused k → after ≡ cond (eqb k 13) (replicate (length odds) 0) output
+pub weights_leaves : {odds links output after : List ℕ} {S : ℕ} {r : Result ℕ Refusal} → weights.Promise odds links S output r after → (k : ℕ) → tells r ≡ refused k → after ≡ cond (eqb k 13) (replicate (length odds) 0) output
 weights_leaves {odds} {links} {output} {after} {S} {r} p k e = p.output_is ∙ (rw (sym p.answer ∙ e))

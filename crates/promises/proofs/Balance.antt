@@ -8,16 +8,18 @@ use mathlib.Core.Bool.{Bool, true, false, cond}
 use mathlib.Core.Path.{◌≡◌, refl, sym, ap, ◌∙◌}
 use mathlib.Core.Logic.{◌⊎◌, inl, inr, ⊎_elim}
 use mathlib.Core.List.{List, [], ◌∷◌}
-use borrow.Author.Tests.{lt-ltb, le-ltb, eqb-true, eqb-false, ltb-true, ltb-false}
+use borrow.Author.Tests.{lt-ltb, le-ltb, ltb-false}
 use lib.Dec.{ltb, eqb}
 use lib.ListN.{length, get_or, set, length-set, replicate, length-replicate}
 use lib.Seq.{get_or-set_same, get_or-set_other, set-get_or}
+use Rattle.std.proofs.lemmas.List.{nil_from_length}
+use Rattle.std.proofs.lemmas.Grind.{common_steps}
 use Rattle.counting.specs.Sum.{sum_of}
 use Rattle.counting.specs.Below.{sum_below}
 use Rattle.counting.proofs.Below.{sum_same, sum_term, sum_times, sum_list}
 use Rattle.weighted_alias.specs.New.{Making, making, head_of, on_small, on_big, push, split, pair_up, settle, scaled, begun, paired, odds_of, links_of}
 use Rattle.weighted_alias.specs.Lists.{over, once, is_low, not_low, Sorted}
-use Rattle.weighted_alias.proofs.Places.{one_zero, zero_one, over_same, sorted_count, Open, alone, push_sorted, split_odds, split_sorted, HeadsAre, heads, small_alone, big_alone, turn_open}
+use Rattle.weighted_alias.proofs.Places.{one_zero, over_same, sorted_count, Open, alone, push_sorted, split_odds, split_sorted, HeadsAre, heads, small_alone, big_alone, turn_open}
 use Rattle.weighted_alias.proofs.Splits.{push_count, split_long}
 use Rattle.weighted_alias.proofs.Turns.{still}
 use Rattle.weighted_alias.proofs.Scales.{scaled_long, scaled_at}
@@ -115,18 +117,7 @@ module _ (n S : ℕ) (ws odds links done : List ℕ) (s : ℕ) (ss : List ℕ) (
 
   turn_draws : (i : ℕ) → i < n → get_or turned.odds i 0 + over (lends turned.odds turned.links S i) (s ∷ done) ≡ n * get_or ws i 0
   unfolding sum_of
-  turn_draws i h = go (eqb b i) refl
-    where
-      go : (t : Bool) → eqb b i ≡ t → get_or turned.odds i 0 + (lends turned.odds turned.links S i s + over (lends turned.odds turned.links S i) done) ≡ n * get_or ws i 0
-      go true e =
-          let own : get_or turned.odds i 0 ≡ rest = ap (λ (x : ℕ). get_or turned.odds x 0) (sym (eqb-true b i e)) ∙ at_big in
-          let was : get_or odds b 0 ≡ get_or odds i 0 = ap (λ (x : ℕ). get_or odds x 0) (eqb-true b i e) in
-          let lack : lends turned.odds turned.links S i s ≡ S - get_or odds s 0 = small_lends i ∙ (rw e) in
-          omega (arith, u.draws i h, done_lend i, facing.less, facing.more)
-      go false e =
-          let own : get_or odds i 0 ≡ get_or turned.odds i 0 = off_big i (λ q. eqb-false b i e (sym q)) in
-          let none : lends turned.odds turned.links S i s ≡ 0 = small_lends i ∙ (rw e) in
-          omega (arith, u.draws i h, done_lend i)
+  turn_draws i h = grind (arith, common_steps, u.draws i h, done_lend i, small_lends i, at_big, off_big i, facing.less, facing.more)
 
   turn_total : get_or turned.odds b 0 + (over (held turned.odds) ss + over (held turned.odds) bs) ≡ suc (length ss + length bs) * S
   unfolding sum_of
@@ -177,29 +168,17 @@ record Full (S : ℕ) (odds xs : List ℕ) : Type 0 where
 low_less : (S : ℕ) (odds xs : List ℕ) → over (not_low S odds) xs ≡ 0 → over (held odds) xs + length xs ≤ length xs * S
 unfolding sum_of
 low_less S odds [] e = omega (arith, zero-mul S)
-low_less S odds (x ∷ xs) e =
-    let own : not_low S odds x ≡ 0 = omega arith in
-    omega (arith, ltb-true (get_or odds x 0) S (zero_one (ltb (get_or odds x 0) S) own), low_less S odds xs (omega arith), suc-mul (length xs) S)
+low_less S odds (x ∷ xs) e = grind (arith, low_less S odds xs, suc-mul (length xs) S)
 
 high_more : (S : ℕ) (odds xs : List ℕ) → over (is_low S odds) xs ≡ 0 → length xs * S + over (is_high S odds) xs ≤ over (held odds) xs
 unfolding sum_of
 high_more S odds [] e = omega (arith, zero-mul S)
-high_more S odds (x ∷ xs) e =
-    let own : is_low S odds x ≡ 0 = omega arith in
-    let more = ltb-false (get_or odds x 0) S (one_zero (ltb (get_or odds x 0) S) own) in
-    omega (arith, step (ltb S (get_or odds x 0)) refl more, high_more S odds xs (omega arith), suc-mul (length xs) S)
-  where
-    step : (b : Bool) → ltb S (get_or odds x 0) ≡ b → S ≤ get_or odds x 0 → S + is_high S odds x ≤ get_or odds x 0
-    step true q more = rw q (omega (arith, ltb-true S (get_or odds x 0) q))
-    step false q more = rw q (omega arith)
+high_more S odds (x ∷ xs) e = grind (arith, high_more S odds xs, suc-mul (length xs) S)
 
 module _ (S : ℕ) (odds : List ℕ) where
   full_at : (x : ℕ) (xs : List ℕ) → Full S odds (x ∷ xs) → (get_or odds x 0 ≡ S) × Full S odds xs
   unfolding sum_of
-  full_at x xs f =
-      let a : is_low S odds x ≡ 0 = omega (arith, f.low) in
-      let b : is_high S odds x ≡ 0 = omega (arith, f.high) in
-      (omega (arith, ltb-false (get_or odds x 0) S (one_zero (ltb (get_or odds x 0) S) a), ltb-false S (get_or odds x 0) (one_zero (ltb S (get_or odds x 0)) b)), record { low = omega (arith, f.low); high = omega (arith, f.high) })
+  full_at x xs f = (grind (arith, f.low, f.high), record { low = omega (arith, f.low); high = omega (arith, f.high) })
 
   settle_full : (xs : List ℕ) → Full S odds xs → settle S xs odds ≡ odds
   unfolding settle
@@ -217,12 +196,7 @@ module _ (S : ℕ) (odds : List ℕ) where
 
 none_over : (f : ℕ → ℕ) (xs : List ℕ) → length xs ≡ 0 → over f xs ≡ 0
 unfolding sum_of
-none_over f [] e = refl
-none_over f (x ∷ xs) e = absurd (omega arith)
-
-none_is : (xs : List ℕ) → length xs ≡ 0 → xs ≡ []
-none_is [] e = refl
-none_is (x ∷ xs) e = absurd (omega arith)
+none_over f xs e = rw (nil_from_length xs e)
 
 -- ---- a table whose pairing is over
 module _ (n S : ℕ) (ws : List ℕ) (t : Making) (o : Over n S ws t) where
@@ -240,7 +214,7 @@ module _ (n S : ℕ) (ws : List ℕ) (t : Making) (o : Over n S ws t) where
 
   settled : settle S t.big (settle S t.small t.odds) ≡ t.odds
   unfolding settle
-  settled = rw (none_is t.small no_small) (settle_full S t.odds t.big big_full)
+  settled = rw (nil_from_length t.small no_small) (settle_full S t.odds t.big big_full)
 
   over_most : (i : ℕ) → i < n → get_or t.odds i 0 ≤ S
   over_most i h =

@@ -4,10 +4,10 @@
 use Prim.Native.Nat.{ℕ, zero, suc, ◌+◌, ◌*◌, ◌-◌, ◌/◌, ◌≤◌, ◌<◌}
 use native.Mathlib.Omega.{arith}
 use native.Mathlib.Nat.{mul-one, mul-zero}
-use mathlib.Core.Bool.{Bool, true, false, cond}
+use mathlib.Core.Bool.{true, cond}
 use mathlib.Core.Path.{◌≡◌, refl, sym, ap, ◌∙◌}
-use mathlib.Core.List.{List, []}
-use borrow.Author.Tests.{lt-ltb, le-ltb, lt-leb, eq-eqb, ne_eqb, ltb-true, ltb-false, leb-true}
+use mathlib.Core.List.{List}
+use borrow.Author.Tests.{lt-ltb, le-ltb, lt-leb, ne_eqb, leb-true}
 use lib.Dec.{eqb, ltb}
 use lib.ListN.{get_or}
 use Rattle.counting.specs.Sum.{sum_of}
@@ -18,7 +18,7 @@ use Rattle.weighted_tree.specs.Store.{Store, total, cell_at, children_at, sound_
 use Rattle.weighted_tree.specs.Tests.{damaged}
 use Rattle.weighted_tree.specs.Walk.{visited, walk_path, last_of, rule}
 use Rattle.promises.specs.Tree.{Holds, answers}
-use Rattle.promises.proofs.Hits.{hit, hit_yes, hit_no, Hit, yes_hit, no_hit, hit_if, hit_children}
+use Rattle.promises.proofs.Hits.{hit, hit_children}
 use Rattle.promises.proofs.Keeps.{all_sound}
 
 -- ---- v for each time that j stands among cell i and the cells under it, down to f levels
@@ -33,16 +33,16 @@ under_up v zero i j = refl
 under_up v (suc f) i j = omega (arith, under_up v f (2 * i + 1) j, under_up v f (2 * i + 2) j, hit_children v i j)
 
 under_none : (v f i : ℕ) → 0 < i → under v f i 0 ≡ 0
-unfolding under
+unfolding under hit
 under_none v zero i h = refl
-under_none v (suc f) i h = omega (arith, hit_no v 0 i (omega arith), under_none v f (2 * i + 1) (omega arith), under_none v f (2 * i + 2) (omega arith))
+under_none v (suc f) i h = grind (arith, under_none v f (2 * i + 1), under_none v f (2 * i + 2))
 
 -- each of the first f cells stands under cell 0 once
 under_root : (v f j : ℕ) → j < f → under v f 0 j ≡ v
-unfolding under
+unfolding under hit
 under_root v zero j h = absurd (omega arith)
-under_root v (suc f) zero h = omega (arith, hit_yes v 0 0 refl, under_none v f 1 (omega arith), under_none v f 2 (omega arith))
-under_root v (suc f) (suc j) h = omega (arith, under_up v f 0 j, hit_no v (suc j) 0 (omega arith), under_root v f (j / 2) (omega arith))
+under_root v (suc f) zero h = omega (arith, under_none v f 1 (omega arith), under_none v f 2 (omega arith))
+under_root v (suc f) (suc j) h = grind (arith, under_up v f 0 j, under_root v f (j / 2))
 
 -- ---- the walk of a sound tree, from cell i with f cells to go
 module _ (s : Store) (n : ℕ) (sound : (i : ℕ) → sound_at s n i ≡ true) where
@@ -65,19 +65,15 @@ module _ (s : Store) (n : ℕ) (sound : (i : ℕ) → sound_at s n i ≡ true) w
 
   to_left : (d f i t : ℕ) → t < left i → ends d (suc f) i t ≡ ends i f (2 * i + 1) t
   unfolding visited
-  to_left d f i t h = rw (lt-ltb t (left i) h)
+  to_left d f i t h = grind arith
 
   to_right : (d f i t : ℕ) → t < right i → ends d (suc f) i (left i + t) ≡ ends i f (2 * i + 2) t
   unfolding visited
-  to_right d f i t h =
-      let rest : left i + t - left i ≡ t = omega arith in
-      rw (le-ltb (left i + t) (left i) (omega arith), rest, lt-ltb t (right i) h)
+  to_right d f i t h = grind arith
 
   to_own : (d f i t : ℕ) → ends d (suc f) i (left i + (right i + t)) ≡ i
   unfolding visited
-  to_own d f i t =
-      let rest : left i + (right i + t) - left i ≡ right i + t = omega arith in
-      rw (le-ltb (left i + (right i + t)) (left i) (omega arith), rest, le-ltb (right i + t) (right i) (omega arith))
+  to_own d f i t = grind arith
 
   -- how many targets of a cell end at j
   module _ (j : ℕ) where
@@ -85,11 +81,8 @@ module _ (s : Store) (n : ℕ) (sound : (i : ℕ) → sound_at s n i ≡ true) w
     here k = cond (eqb k j) 1 0
 
     own : (i : ℕ) → sum_below (weight_at s n i) (λ t. here i) ≡ hit (weight_at s n j) j i
-    own i = go (hit_if (weight_at s n j) j i)
-      where
-        go : Hit (weight_at s n j) j i → sum_below (weight_at s n i) (λ t. here i) ≡ hit (weight_at s n j) j i
-        go (yes_hit e q) = rw (eq-eqb i j (sym e)) (sum_each (weight_at s n i) 1 ∙ mul-one (weight_at s n i) ∙ ap (weight_at s n) (sym e) ∙ sym q)
-        go (no_hit e q) = rw (ne_eqb i j (λ k. e (sym k))) (sum_each (weight_at s n i) 0 ∙ mul-zero (weight_at s n i) ∙ sym q)
+    unfolding hit
+    own i = sum_each (weight_at s n i) (here i) ∙ grind (arith, mul-one, mul-zero)
 
     from : (d f i : ℕ) → n ≤ i + f → sum_below (cell_at s n i) (λ t. here (ends d f i t)) ≡ under (weight_at s n j) f i j
     unfolding under sum_below
@@ -112,16 +105,8 @@ module _ (s : Store) (n : ℕ) (sound : (i : ℕ) → sound_at s n i ≡ true) w
   ends_below : (d f i t : ℕ) → n ≤ i + f → t < cell_at s n i → ends d f i t < n
   unfolding visited
   ends_below d zero i t h k = absurd (omega (arith, beyond i (omega arith)))
-  ends_below d (suc f) i t h k = go (ltb t (left i)) refl (ltb (t - left i) (right i)) refl (ends_below i f (2 * i + 1) t (omega arith)) (ends_below i f (2 * i + 2) (t - left i) (omega arith))
-    where
-      go : (b : Bool) → ltb t (left i) ≡ b → (c : Bool) → ltb (t - left i) (right i) ≡ c → (t < left i → ends i f (2 * i + 1) t < n) → (t - left i < right i → ends i f (2 * i + 2) (t - left i) < n) → last_of i (cond b (visited s n f (2 * i + 1) t) (cond c (visited s n f (2 * i + 2) (t - left i)) [])) < n
-      go true e c q l r = l (ltb-true _ _ e)
-      go false e true q l r = r (ltb-true _ _ q)
-      go false e false q l r = inside (ltb i n) refl
-        where
-          inside : (b : Bool) → ltb i n ≡ b → i < n
-          inside true z = ltb-true i n z
-          inside false z = absurd (omega (arith, beyond i (ltb-false i n z)))
+  ends_below d (suc f) i t h k =
+      grind (arith, ends_below i f (2 * i + 1) t, ends_below i f (2 * i + 2) (t - left i), beyond i)
 
 -- ---- the theorems, of a store that holds some weights
 module _ {s : Store} {n : ℕ} {ws : List ℕ} (h : Holds s n ws) where

@@ -12,17 +12,15 @@ use lib.ListN.{length, get_or, replicate}
 use lib.Ieee.{Float, binary64, fits, mul, eq}
 use lib.Ieee.Bits.{of_bits-to_bits}
 use lib.Ieee.Fits.{mul-fits, div-fits}
+use Rattle.std.specs.Prelude.{Result, Ok, Err}
 use Rattle.refusal.specs.Number.{number}
 use Rattle.refusal.specs.Outcome.{Outcome, gave, refused}
-use Rattle.refusal.specs.Answers.{said_tells, counted_tells, weighed_tells, popped_tells, drawn_tells, in_numbers, alone, yes_no}
+use Rattle.refusal.specs.Answers.{tells, in_numbers, alone}
 use Rattle.refusal.specs.declared.Refusal.{Refusal}
 use Rattle.refusal.specs.declared.Drawing.{Drawing}
 use Rattle.refusal.proofs.Named.{named, named_number}
 use Rattle.refusal.proofs.Order.{given_not_refused, given_means}
-use Rattle.words.specs.Below as below
 use Rattle.weighted_tree.specs.Store.{Store}
-use Rattle.binomial.specs.declared.Made.{Made}
-use Rattle.binomial.specs.declared.Made.TheVariants as made
 use Rattle.binomial.specs.declared.Binv.{Binv}
 use Rattle.binomial.specs.declared.Method.{Method}
 use Rattle.binomial.specs.declared.Method.TheVariants as method
@@ -31,8 +29,7 @@ use Rattle.binomial.specs.New as setup
 use Rattle.ziggurat.specs.declared.Rounded.{Rounded}
 use Rattle.ziggurat.specs.declared.Rounded.TheVariants as rounded
 use Rattle.ziggurat.specs.Numbers as rounds
-use Rattle.ziggurat.specs.Round.{tells}
-use Rattle.slot_draw.specs.Cells.{Promise, three, drawing_cells}
+use Rattle.slot_draw.specs.Cells.{Promise, three, cells_by, drawing_cells}
 use Rattle.slot_draw.specs.Tree as tree
 use Rattle.slot_draw.specs.Alias as alias
 use Rattle.slot_draw.specs.Words as words
@@ -114,16 +111,16 @@ number_of_three : {A : Type 0} (values : A → ℕ × ℕ) (o : Outcome A) → n
 number_of_three values (gave v) = refl
 number_of_three values (refused k) = refl
 
-number_of_made : (a : Made) → number_in (binomial.made_cells a) ≡ told (setup.tells a)
-number_of_made (made.Setup (method.Constant c)) = refl
-number_of_made (made.Setup (method.Binv b)) = refl
-number_of_made (made.Refused r) = refl
+number_of_made : (a : Result Method Refusal) → number_in (binomial.made_cells a) ≡ told (tells a)
+number_of_made (Ok (method.Constant c)) = refl
+number_of_made (Ok (method.Binv b)) = refl
+number_of_made (Err r) = refl
 
-number_of_round : (o : Rounded) (k : ℕ) → (number_in (ziggurat.five (rounds.in_numbers (tells o) k)) ≡ told (tells o)) × (get_or (ziggurat.five (rounds.in_numbers (tells o) k)) 4 0 ≡ k)
-number_of_round (rounded.Sample x) k = (refl, refl)
-number_of_round (rounded.Tail u) k = (refl, refl)
-number_of_round (rounded.Wedge x height) k = (refl, refl)
-number_of_round (rounded.Refused r) k = (refl, refl)
+number_of_round : (o : Result Rounded Refusal) (k : ℕ) → (number_in (rounds.five (rounds.in_numbers (tells o) k)) ≡ told (tells o)) × (get_or (rounds.five (rounds.in_numbers (tells o) k)) 4 0 ≡ k)
+number_of_round (Ok (rounded.Sample x)) k = (refl, refl)
+number_of_round (Ok (rounded.Tail u)) k = (refl, refl)
+number_of_round (Ok (rounded.Wedge x height)) k = (refl, refl)
+number_of_round (Err r) k = (refl, refl)
 
 -- ---- so the rows of a call are those of its export
 number_by : {A : Type 0} (rows : Table) (cells : List ℕ) (o : Outcome A) → number_in cells ≡ told o → GivenBy rows o → NumberBy rows cells
@@ -150,80 +147,80 @@ number_0 rows cells by =
     go zero e none = e
     go (suc n) e none = absurd (none (suc n) (omega arith) ((by (suc n) (omega arith)).0 e))
 
--- answers of three cells: what an answer tells, and by which values
-module _ {A B : Type 0} (tells_of : A → Outcome B) (values : B → ℕ × ℕ) {P : A → Type 0} {cells : List ℕ} (rows : Table) (p : Promise P (λ a. three (in_numbers values (tells_of a))) cells) where
-  number_is : number_in cells ≡ told (tells_of p.answer)
-  number_is = ap number_in p.cells_are ∙ number_of_three values (tells_of p.answer)
+-- answers of three cells, by the values that stand for what is given
+module _ {A : Type 0} {values : A → ℕ × ℕ} {P : Result A Refusal → Type 0} {cells : List ℕ} (rows : Table) (p : Promise P (cells_by values) cells) where
+  number_is : number_in cells ≡ told (tells p.answer)
+  number_is = ap number_in p.cells_are ∙ number_of_three values (tells p.answer)
 
-  given_cells : ((a : A) → P a → GivenBy rows (tells_of a)) → NumberBy rows cells
-  given_cells by = number_by rows cells (tells_of p.answer) number_is (by _ p.promise)
+  given_cells : ((a : Result A Refusal) → P a → GivenBy rows (tells a)) → NumberBy rows cells
+  given_cells by = number_by rows cells (tells p.answer) number_is (by _ p.promise)
 
-  refused_cells : {C : Type 0} {found after : C} → ((a : A) → P a → RefusedBy rows (tells_of a) found after) → Refuses rows cells found after
-  refused_cells by = refuses_by rows cells (tells_of p.answer) number_is (by _ p.promise)
+  refused_cells : {C : Type 0} {found after : C} → ((a : Result A Refusal) → P a → RefusedBy rows (tells a) found after) → Refuses rows cells found after
+  refused_cells by = refuses_by rows cells (tells p.answer) number_is (by _ p.promise)
 
 -- draws: the third cell is the words
-drawn_cells_lem : {P : Drawing → Type 0} {cells : List ℕ} (rows : Table) → Promise P drawing_cells cells → ((a : Drawing) → P a → RefusedBy rows (drawn_tells a.outcome) 0 a.words) → Refuses rows cells 0 (get_or cells 2 0)
+drawn_cells_lem : {P : Drawing → Type 0} {cells : List ℕ} (rows : Table) → Promise P drawing_cells cells → ((a : Drawing) → P a → RefusedBy rows (tells a.outcome) 0 a.words) → Refuses rows cells 0 (get_or cells 2 0)
 drawn_cells_lem {P} {cells} rows p by =
     let a = p.answer in
-    rw p.cells_are (refuses_by rows (drawing_cells a) (drawn_tells a.outcome) (number_of_three alone (drawn_tells a.outcome)) (by a p.promise))
+    rw p.cells_are (refuses_by rows (drawing_cells a) (tells a.outcome) (number_of_three alone (tells a.outcome)) (by a p.promise))
 
 -- ---- the tree
 module _ {s : Store} where
   pub tree_new_table : {ws cells : List ℕ} {after : Store} → tree.New s ws cells after → Refuses (NewRows s ws) cells s after
-  tree_new_table p = refused_cells counted_tells alone _ p (λ a. tree_table.new_table)
+  tree_new_table p = refused_cells _ p (λ a. tree_table.new_table)
 
   module _ {n : ℕ} where
     pub tree_is_valid_table : {cells : List ℕ} → tree.IsValid s n cells → NumberBy (CountRows s n) cells
-    tree_is_valid_table p = given_cells said_tells yes_no (CountRows s n) p (λ a. tree_table.is_valid_table)
+    tree_is_valid_table p = given_cells (CountRows s n) p (λ a. tree_table.is_valid_table)
 
     pub tree_get_table : {i : ℕ} {cells : List ℕ} → tree.Get s n i cells → NumberBy (GetRows s n i) cells
-    tree_get_table {i} p = given_cells weighed_tells alone (GetRows s n i) p (λ a. tree_table.get_table)
+    tree_get_table {i} p = given_cells (GetRows s n i) p (λ a. tree_table.get_table)
 
     pub tree_pop_table : {cells : List ℕ} {after : Store} → tree.Pop s n cells after → Refuses (PopRows s n) cells s after
-    tree_pop_table p = refused_cells popped_tells (λ v. v) _ p (λ a. tree_table.pop_table)
+    tree_pop_table p = refused_cells _ p (λ a. tree_table.pop_table)
 
     pub tree_push_table : {w : ℕ} {cells : List ℕ} {after : Store} → tree.Push s n w cells after → Refuses (PushRows s n w) cells s after
-    tree_push_table p = refused_cells counted_tells alone _ p (λ a. tree_table.push_table)
+    tree_push_table p = refused_cells _ p (λ a. tree_table.push_table)
 
     pub tree_update_table : {i w : ℕ} {cells : List ℕ} {after : Store} → tree.Update s n i w cells after → Refuses (UpdateRows s n i w) cells s after
-    tree_update_table p = refused_cells counted_tells alone _ p (λ a. tree_table.update_table)
+    tree_update_table p = refused_cells _ p (λ a. tree_table.update_table)
 
     pub tree_walk_table : {t : ℕ} {cells : List ℕ} → tree.Walk s n t cells → NumberBy (WalkRows s n t) cells
-    tree_walk_table {t} p = given_cells drawn_tells alone (WalkRows s n t) p (λ a. tree_table.walk_table)
+    tree_walk_table {t} p = given_cells (WalkRows s n t) p (λ a. tree_table.walk_table)
 
     pub tree_draw_table : {pool cells : List ℕ} → tree.Draw s n pool cells → Refuses (DrawRows s n pool) cells 0 (get_or cells 2 0)
     tree_draw_table p = drawn_cells_lem _ p (λ a. tree_table.draw_table)
 
     pub tree_is_sound_table : {cells : List ℕ} → tree.IsSound s n cells → NumberBy (CountRows s n) cells
-    tree_is_sound_table p = given_cells said_tells yes_no (CountRows s n) p (λ a. tree_table.is_sound_table)
+    tree_is_sound_table p = given_cells (CountRows s n) p (λ a. tree_table.is_sound_table)
 
 -- ---- the alias table
 pub alias_new_table : {ws odds links cells odds_after links_after : List ℕ} → alias.New ws odds links cells odds_after links_after → Refuses {B = List ℕ × List ℕ} (AliasNewRows ws (length odds) (length links)) cells (odds, links) (odds_after, links_after)
-alias_new_table p = refused_cells weighed_tells alone _ p (λ a. alias_table.new_table)
+alias_new_table p = refused_cells _ p (λ a. alias_table.new_table)
 
 pub alias_draw_table : {odds links pool cells : List ℕ} {S : ℕ} → alias.Draw odds links S pool cells → Refuses (AliasDrawRows odds links S pool) cells 0 (get_or cells 2 0)
 alias_draw_table p = drawn_cells_lem _ p (λ a. alias_table.draw_table)
 
 pub alias_check_table : {ws odds links work cells after : List ℕ} → alias.Check ws odds links work cells after → Refuses (AliasCheckRows ws (length odds) (length links) (length work)) cells work after
-alias_check_table p = refused_cells said_tells yes_no _ p (λ a. alias_table.check_table)
+alias_check_table p = refused_cells _ p (λ a. alias_table.check_table)
 
 pub alias_weights_table : {odds links output cells after : List ℕ} {S : ℕ} → alias.Weights odds links S output cells after → NumberBy (AliasWeightsRows odds links S (length output)) cells
 alias_weights_table {odds} {links} {output} {cells} {after} {S} p =
-    given_cells counted_tells alone (AliasWeightsRows odds links S (length output)) p (λ a. alias_table.weights_table)
+    given_cells (AliasWeightsRows odds links S (length output)) p (λ a. alias_table.weights_table)
 
 -- a table that is damaged leaves n zeros, and every other refusal what was there
 pub alias_weights_leaves : {odds links output cells after : List ℕ} {S : ℕ} → alias.Weights odds links S output cells after → 0 < number_in cells → after ≡ cond (eqb (number_in cells) 13) (replicate (length odds) 0) output
 alias_weights_leaves {odds} {links} {output} {cells} {after} {S} p above =
-    let e = number_is counted_tells alone [] p in
-    rw e (alias_table.weights_leaves p.promise _ (refused_told (counted_tells p.answer) (omega arith)))
+    let e = number_is [] p in
+    rw e (alias_table.weights_leaves p.promise _ (refused_told (tells p.answer) (omega arith)))
 
 -- ---- words, the binomial, a ziggurat round
 pub number_below_table : {pool cells : List ℕ} {T : ℕ} → words.NumberBelow pool T cells → NumberBy (WordRows T pool) cells
-number_below_table {pool} {cells} {T} p = given_cells below.tells (λ v. v) (WordRows T pool) p (λ a. tree_table.number_below_table)
+number_below_table {pool} {cells} {T} p = given_cells (WordRows T pool) p (λ a. tree_table.number_below_table)
 
 pub binomial_new_table : {n : ℕ} {x : Float} {cells : List ℕ} → binomial.New n x cells → NumberBy (SetupRows n x) cells
 binomial_new_table {n} {x} {cells} p =
-    number_by (SetupRows n x) cells (setup.tells p.answer) (ap number_in p.cells_are ∙ number_of_made p.answer) (float_table.setup_table p.promise)
+    number_by (SetupRows n x) cells (tells p.answer) (ap number_in p.cells_are ∙ number_of_made p.answer) (float_table.setup_table p.promise)
 
 pub binomial_draw_table : (made : List ℕ) {pool cells : List ℕ} → binomial.Draw made pool cells → Refuses (BinvRows (binomial.method_of made) pool) cells 0 (get_or cells 2 0)
 binomial_draw_table made p = drawn_cells_lem _ p (λ a. float_table.binv_table (binomial.method_of made))
@@ -239,7 +236,7 @@ flip_back : (b : Bool) → not (eqb (cond b 1 0) 0) ≡ b
 flip_back true = refl
 flip_back false = refl
 
-binv_back : (b : Binv) → T (fits binary64 b.r) → T (fits binary64 b.s) → T (fits binary64 b.a) → binomial.method_of (binomial.made_cells (made.Setup (method.Binv b))) ≡ method.Binv b
+binv_back : (b : Binv) → T (fits binary64 b.r) → T (fits binary64 b.s) → T (fits binary64 b.a) → binomial.method_of (binomial.made_cells (Ok (method.Binv b))) ≡ method.Binv b
 binv_back b r s a = rw (of_bits-to_bits binary64 b.r r, of_bits-to_bits binary64 b.s s, of_bits-to_bits binary64 b.a a, flip_back b.flip)
 
 power_fits : (bits n : ℕ) (power made : Float) → T (fits binary64 made) → T (fits binary64 (power_from bits n power made))
@@ -251,19 +248,19 @@ power_fits (suc bits) n power made h = power_fits bits (n / 2) (mul binary64 pow
     go true = mul-fits binary64 made power
     go false = h
 
-setup_back : (n : ℕ) (x : Float) → binomial.method_of (binomial.made_cells (made.Setup (setup_value n x))) ≡ setup_value n x
+setup_back : (n : ℕ) (x : Float) → binomial.method_of (binomial.made_cells (Ok (setup_value n x))) ≡ setup_value n x
 unfolding binv_of fits
 setup_back n x = go (eq x nought) (eq x one)
   where
-    go : (z t : Bool) → binomial.method_of (binomial.made_cells (made.Setup (cond z (method.Constant 0) (cond t (method.Constant n) (method.Binv (binv_of n x)))))) ≡ cond z (method.Constant 0) (cond t (method.Constant n) (method.Binv (binv_of n x)))
+    go : (z t : Bool) → binomial.method_of (binomial.made_cells (Ok (cond z (method.Constant 0) (cond t (method.Constant n) (method.Binv (binv_of n x)))))) ≡ cond z (method.Constant 0) (cond t (method.Constant n) (method.Binv (binv_of n x)))
     go true t = refl
     go false true = refl
     go false false = binv_back (binv_of n x) (power_fits 64 n _ one tt) (div-fits binary64 _ _) (mul-fits binary64 _ _)
 
-setup_same : {n : ℕ} {x : Float} {m : Method} → setup.Promise n x (made.Setup m) → binomial.method_of (binomial.made_cells (made.Setup m)) ≡ m
+setup_same : {n : ℕ} {x : Float} {m : Method} → setup.Promise n x (Ok m) → binomial.method_of (binomial.made_cells (Ok m)) ≡ m
 setup_same {n} {x} {m} p =
     let e = (given_means (setup_tests n x) (setup_value n x) m (sym (p.answer ∙ setup_order n x))).1 in
-    ap (λ (k : Method). binomial.method_of (binomial.made_cells (made.Setup k))) (sym e) ∙ setup_back n x ∙ e
+    ap (λ (k : Method). binomial.method_of (binomial.made_cells (Ok k))) (sym e) ∙ setup_back n x ∙ e
 
 no_number_0 : (r : Refusal) → number r ≡ 0 → ⊥
 no_number_0 r e = let first : number r ≡ 1 = ap number (sym (named_number r) ∙ ap named e) in omega arith
@@ -272,6 +269,6 @@ no_number_0 r e = let first : number r ≡ 1 = ap number (sym (named_number r) �
 pub setup_handed_on : {n : ℕ} {x : Float} {cells : List ℕ} → binomial.New n x cells → number_in cells ≡ 0 → setup.rule n x ≡ gave (binomial.method_of cells)
 setup_handed_on {n} {x} {cells} p z = go p.answer p.promise p.cells_are
   where
-    go : (a : Made) → setup.Promise n x a → cells ≡ binomial.made_cells a → setup.rule n x ≡ gave (binomial.method_of cells)
-    go (made.Setup m) q e = sym q.answer ∙ ap gave (sym (ap binomial.method_of e ∙ setup_same q))
-    go (made.Refused r) q e = absurd (no_number_0 r (sym (ap number_in e) ∙ z))
+    go : (a : Result Method Refusal) → setup.Promise n x a → cells ≡ binomial.made_cells a → setup.rule n x ≡ gave (binomial.method_of cells)
+    go (Ok m) q e = sym q.answer ∙ ap gave (sym (ap binomial.method_of e ∙ setup_same q))
+    go (Err r) q e = absurd (no_number_0 r (sym (ap number_in e) ∙ z))

@@ -22,12 +22,12 @@ use Rattle.weighted_tree.specs.Update as update
 use Rattle.weighted_tree.specs.Walk as walk
 use Rattle.weighted_tree.specs.Draw as draw
 use Rattle.weighted_tree.specs.IsSound as is_sound
-use Rattle.promises.specs.Tree.{Sound, Holds, answers}
+use Rattle.promises.specs.Tree.{count_left, Sound, Holds, answers}
 use Rattle.promises.specs.History.{Call, making, pushing, popping, updating, validity, getting, walking, drawing, soundness, State, given, told, After, Step, Begun, History, NeverTold}
 use Rattle.promises.proofs.Makes.{made_holds}
 use Rattle.promises.proofs.Keeps.{all_sound, pushed_holds, popped_holds, updated_holds}
 use Rattle.promises.proofs.Rows.{clash}
-use Rattle.promises.proofs.Sound.{holds_sound}
+use Rattle.promises.proofs.Sound.{by_ends, holds_sound}
 use Rattle.promises.proofs.Counts.{every_target_answered, answers_weight, total_is_sum}
 
 abbrev HoldsNow : State → Type 0
@@ -43,11 +43,9 @@ pub record Kept (t : State) (number : ℕ) : Type 0 where
 -- a call with some refusals, that would change the store so
 module _ {A : Type 0} (c : Call) (rs : List (ℕ × Bool)) (v : A) (counted : A → ℕ) (changed : Store) (t t' : State) (k : ℕ) (o : Outcome A) (p : o ≡ in_order rs (gave v)) (a : After c o counted t k t') where
   keeps : t'.store ≡ leaves (in_order rs (gave v)) changed t.store → (None rs → Holds changed (counted v) (given c t.weights)) → HoldsNow t → HoldsNow t'
-  keeps q f h = go (ends rs v)
-    where
-      go : Ends rs v → HoldsNow t'
-      go (ends_given none e) = rw (a.count_is, a.weights_are, q, p, e) (f none)
-      go (ends_refused j e) = rw (a.count_is, a.weights_are, q, p, e) h
+  keeps q f h =
+      rw (a.count_is, a.weights_are, q, p)
+      (by_ends rs v (λ o. Holds (leaves o changed t.store) (count_left counted o t.count) (leaves o (given c t.weights) t.weights)) f (λ j. h))
 
   -- a number whose test does not hold is not told
   untold : (j : ℕ) → 0 < j → once j rs ≡ true → (Exactly j rs → ⊥) → k ≡ j → ⊥
@@ -94,10 +92,7 @@ module _ (t : State) (h : HoldsNow t) where
   step_keeps (pushing w) k t' (r, p, a) =
       kept (pushing w) (push.refusals s n w) (n + 1) (λ m. m) (push.changed s n w) t t' k _ p.answer a p.store (λ none. pushed_holds s n w t.weights h none.1.0) h refl miscounted refl (λ e. whole _ e.1.1)
   step_keeps popping k t' (r, p, a) =
-      kept {A = ℕ × ℕ} popping (pop.refusals s n) (weight_at s n (n - 1), n - 1) (λ v. v.1) (pop.changed s n) t t' k _ p.answer a p.store (λ none. popped (some (eqb-false _ _ none.1.0))) h refl miscounted refl (λ e. whole _ e.1.1)
-    where
-      some : (n ≡ 0 → ⊥) → 0 < n
-      some e = omega arith
+      kept {A = ℕ × ℕ} popping (pop.refusals s n) (weight_at s n (n - 1), n - 1) (λ v. v.1) (pop.changed s n) t t' k _ p.answer a p.store (λ none. popped (omega (arith, eqb-false _ _ none.1.0))) h refl miscounted refl (λ e. whole _ e.1.1)
   step_keeps (updating i w) k t' (r, p, a) =
       kept (updating i w) (update.refusals s n i w) n (λ m. n) (update.changed s n i w) t t' k _ p.answer a p.store (λ none. updated_holds s n i w t.weights h (leb-false _ _ none.1.0)) h refl miscounted refl (λ e. whole _ e.1.1)
   step_keeps validity k t' (r, (p, q), a) = reads validity (is_valid.refusals s n) _ t' k _ refl p.answer q a refl miscounted refl (λ e. e.1)

@@ -2,89 +2,49 @@
 -- path. By recursion up the way. Assumes nothing.
 use Prim.Native.Nat.{ℕ, suc, ◌+◌, ◌*◌, ◌-◌, ◌/◌, ◌<◌, ◌≤◌}
 use native.Mathlib.Omega.{arith}
-use mathlib.Core.Bool.{Bool, true, false, cond}
-use mathlib.Core.Path.{◌≡◌, refl, sym, ◌∙◌}
+use mathlib.Core.Bool.{cond}
+use mathlib.Core.Path.{◌≡◌, refl, ◌∙◌}
 use mathlib.Core.List.{List, [], ◌∷◌}
-use mathlib.Core.Logic.{◌⊎◌, inl, inr}
-use borrow.Author.Tests.{eq-eqb, ne_eqb, eqb-true, eqb-false}
 use lib.Dec.{eqb}
+use Rattle.std.proofs.lemmas.Grind.{common_steps}
 use lib.ListN.{length, get_or, set, length-set}
-use lib.Seq.{get_or-set_same, get_or-set_other}
 use Rattle.weighted_tree.specs.Store.{Store}
 use Rattle.weighted_tree.specs.Path.{parents, path_of, change_all, Each}
-use Rattle.weighted_tree.proofs.Climb.{Climb, top, up, climb, parents_suc, parents_top, parity, each_set}
+use Rattle.weighted_tree.proofs.Climb.{Climb, top, up, climb, parents_suc, parents_top, each_set}
 
 -- v where i is j, and else 0
 unfoldable pub hit : ℕ → ℕ → ℕ → ℕ
 hit v i j = cond (eqb i j) v 0
 
-pub hit_yes : (v i j : ℕ) → i ≡ j → hit v i j ≡ v
-unfolding hit
-hit_yes v i j e = rw (eq-eqb i j e)
-
-pub hit_no : (v i j : ℕ) → (i ≡ j → ⊥) → hit v i j ≡ 0
-unfolding hit
-hit_no v i j e = rw (ne_eqb i j e)
-
--- it is v at its place, and 0 elsewhere
-pub data Hit (v i j : ℕ) : Type 0 where
-  yes_hit : i ≡ j → hit v i j ≡ v → Hit v i j
-  no_hit : (i ≡ j → ⊥) → hit v i j ≡ 0 → Hit v i j
-
-pub hit_if : (v i j : ℕ) → Hit v i j
-hit_if v i j = go (eqb i j) refl
-  where
-    go : (b : Bool) → eqb i j ≡ b → Hit v i j
-    go true e = yes_hit (eqb-true i j e) (hit_yes v i j (eqb-true i j e))
-    go false e = no_hit (eqb-false i j e) (hit_no v i j (eqb-false i j e))
-
 pub hit_le : (d j i v : ℕ) → (j ≡ i → d ≤ v) → hit d j i ≤ v
-hit_le d j i v h = go (hit_if d j i)
-  where
-    go : Hit d j i → hit d j i ≤ v
-    go (yes_hit e q) = omega (arith, h e)
-    go (no_hit e q) = omega arith
+unfolding hit
+hit_le d j i v h = grind arith
 
 -- of the children of i just one is j + 1 if i is its parent, and else none
 pub hit_children : (v i j : ℕ) → hit v (suc j) (2 * i + 1) + hit v (suc j) (2 * i + 2) ≡ hit v (j / 2) i
-hit_children v i j = go (hit_if v (j / 2) i) (parity j)
-  where
-    go : Hit v (j / 2) i → ((j ≡ 2 * (j / 2)) ⊎ (j ≡ 2 * (j / 2) + 1)) → hit v (suc j) (2 * i + 1) + hit v (suc j) (2 * i + 2) ≡ hit v (j / 2) i
-    go (yes_hit k q) (inl p) =
-        omega (arith, hit_yes v (suc j) (2 * i + 1) (omega arith), hit_no v (suc j) (2 * i + 2) (omega arith))
-    go (yes_hit k q) (inr p) =
-        omega (arith, hit_no v (suc j) (2 * i + 1) (omega arith), hit_yes v (suc j) (2 * i + 2) (omega arith))
-    go (no_hit k q) p =
-        omega (arith, hit_no v (suc j) (2 * i + 1) (λ e. k (omega arith)), hit_no v (suc j) (2 * i + 2) (λ e. k (omega arith)))
+unfolding hit
+hit_children v i j = grind arith
 
 -- v for each time that i stands on a path
 unfoldable pub on_path : ℕ → List ℕ → ℕ → ℕ
 on_path v [] i = 0
 on_path v (x ∷ path) i = hit v x i + on_path v path i
 
-pub on_path_zero : (path : List ℕ) (i : ℕ) → on_path 0 path i ≡ 0
-unfolding on_path
-on_path_zero [] i = refl
-on_path_zero (x ∷ path) i = omega (arith, on_path_zero path i, hit_le 0 x i 0 (λ e. omega arith))
-
 -- the way up from j comes to i's parents by one of i's children
 pub on_path_children : (v : ℕ) {j : ℕ} → Climb j → (i : ℕ) → on_path v (path_of j) (2 * i + 1) + on_path v (path_of j) (2 * i + 2) ≡ on_path v (parents j) i
-unfolding on_path
-on_path_children v top i =
-    rw (parents_top 0 (omega arith))
-    (omega (arith, hit_no v 0 (2 * i + 1) (omega arith), hit_no v 0 (2 * i + 2) (omega arith)))
+unfolding on_path hit
+on_path_children v top i = rw (parents_top 0 (omega arith)) (grind arith)
 on_path_children v (up j way) i = rw (parents_suc j) (omega (arith, on_path_children v way i, hit_children v i j))
 
 -- the parents are below
 pub on_path_above : (v : ℕ) {j : ℕ} → Climb j → (i : ℕ) → j ≤ i → on_path v (parents j) i ≡ 0
-unfolding on_path
+unfolding on_path hit
 on_path_above v top i h = rw (parents_top 0 (omega arith))
-on_path_above v (up j way) i h =
-    rw (parents_suc j) (omega (arith, hit_no v (j / 2) i (omega arith), on_path_above v way i (omega arith)))
+on_path_above v (up j way) i h = rw (parents_suc j) (grind (arith, on_path_above v way i))
 
 pub on_path_out : (v j i : ℕ) → j < i → on_path v (path_of j) i ≡ 0
-unfolding on_path
-on_path_out v j i h = omega (arith, on_path_above v (climb j) i (omega arith), hit_no v j i (omega arith))
+unfolding on_path hit
+on_path_out v j i h = grind (arith, on_path_above v (climb j) i)
 
 -- ---- what a change leaves in each cell
 pub length_change : (s : Store) (rise fall : ℕ) (path : List ℕ) → length (change_all s rise fall path) ≡ length s
@@ -93,13 +53,8 @@ length_change s rise fall [] = refl
 length_change s rise fall (x ∷ path) = length_change (set s x (get_or s x 0 + rise - fall)) rise fall path ∙ simp length-set
 
 pub set_change : (s : List ℕ) (x rise fall i : ℕ) → x < length s → fall ≤ get_or s x 0 + rise → get_or (set s x (get_or s x 0 + rise - fall)) i 0 + hit fall x i ≡ get_or s i 0 + hit rise x i
-set_change s x rise fall i h q = go (hit_if fall x i)
-  where
-    go : Hit fall x i → get_or (set s x (get_or s x 0 + rise - fall)) i 0 + hit fall x i ≡ get_or s i 0 + hit rise x i
-    go (yes_hit e p) =
-        rw (← e)
-        (omega (arith, get_or-set_same s x (get_or s x 0 + rise - fall) 0 h, hit_yes fall x x refl, hit_yes rise x x refl))
-    go (no_hit e p) = omega (arith, get_or-set_other s x i (get_or s x 0 + rise - fall) 0 (λ k. e (sym k)), hit_no rise x i e)
+unfolding hit
+set_change s x rise fall i h q = grind (arith, common_steps)
 
 -- a cell has enough for the fall after the rise
 abbrev pub Enough : ℕ → ℕ → ℕ → Type 0

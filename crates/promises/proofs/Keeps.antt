@@ -5,8 +5,9 @@ use native.Mathlib.Omega.{arith}
 use mathlib.Core.Bool.{true, false}
 use mathlib.Core.Path.{◌≡◌, refl, ap, ◌∙◌}
 use mathlib.Core.List.{List, [], ◌∷◌, ◌++◌}
-use lib.ListN.{length, get_or, set, take, length-set, length-append, get_or-eq_default}
-use lib.Seq.{get_or-take, length-take-le}
+use lib.ListN.{length, get_or, set, take, length-set, length-append}
+use lib.Seq.{length-take-le}
+use Rattle.std.proofs.lemmas.Grind.{common_steps}
 use Rattle.weighted_tree.specs.Store.{Store, cell_at, children_at, sound_at, weight_at}
 use Rattle.weighted_tree.specs.Path.{parents, path_of, sound_all, change_all}
 use Rattle.weighted_tree.specs.Tests.{full}
@@ -16,8 +17,8 @@ use Rattle.weighted_tree.specs.Update as update
 use Rattle.weighted_tree.proofs.Cells.{cell_out, good_count, count_good, has_room, weight_le}
 use Rattle.weighted_tree.proofs.Climb.{climb, each_parents, each_path, each_set}
 use Rattle.promises.specs.Tree.{Holds}
-use Rattle.promises.proofs.Hits.{hit, hit_yes, hit_no, hit_le, Hit, yes_hit, no_hit, hit_if, length_change, set_change, Enough}
-use Rattle.promises.proofs.Weigh.{change_sound, change_weight, Order, below, equal, above, order, push_cells, pop_cells, update_cells}
+use Rattle.promises.proofs.Hits.{hit, hit_le, length_change, set_change, Enough}
+use Rattle.promises.proofs.Weigh.{change_sound, change_weight, push_cells, pop_cells, update_cells}
 
 -- where all cells are sound, those of any path are
 pub all_sound : (s : Store) (n : ℕ) → ((i : ℕ) → sound_at s n i ≡ true) → (path : List ℕ) → sound_all s n path ≡ true
@@ -26,18 +27,9 @@ all_sound s n h [] = refl
 all_sound s n h (x ∷ path) = rw (h x) (all_sound s n h path)
 
 -- ---- push
-hit_suc : (v a b : ℕ) → hit v a b ≡ hit v (suc a) (suc b)
-hit_suc v a b = go (hit_if v a b)
-  where
-    go : Hit v a b → hit v a b ≡ hit v (suc a) (suc b)
-    go (yes_hit e q) = omega (arith, hit_yes v (suc a) (suc b) (ap suc e))
-    go (no_hit e q) = omega (arith, hit_no v (suc a) (suc b) (λ p. e (omega arith)))
-
 get_d_snoc : (ws : List ℕ) (w i : ℕ) → get_or (ws ++ (w ∷ [])) i 0 ≡ get_or ws i 0 + hit w (length ws) i
-get_d_snoc [] w zero = omega (arith, hit_yes w 0 0 refl)
-get_d_snoc [] w (suc i) = omega (arith, hit_no w 0 (suc i) (omega arith))
-get_d_snoc (x ∷ ws) w zero = omega (arith, hit_no w (suc (length ws)) 0 (omega arith))
-get_d_snoc (x ∷ ws) w (suc i) = omega (arith, get_d_snoc ws w i, hit_suc w (length ws) i)
+unfolding hit
+get_d_snoc ws w i = grind (arith, common_steps)
 
 pub pushed_holds : (s : Store) (n w : ℕ) (ws : List ℕ) → Holds s n ws → full s n ≡ false → Holds (push.changed s n w) (n + 1) (ws ++ (w ∷ []))
 unfolding push.changed
@@ -69,27 +61,8 @@ unfolding weight_at children_at
 last_weight s m = omega (arith, cell_out s (suc m) (2 * m + 1) (omega arith), cell_out s (suc m) (2 * m + 2) (omega arith))
 
 get_d_init : (ws : List ℕ) (m i : ℕ) → length ws ≡ suc m → get_or ws i 0 ≡ get_or (take m ws) i 0 + hit (get_or ws m 0) m i
-get_d_init ws m i h = go (order i m)
-  where
-    front : length (take m ws) ≡ m
-    front = length-take-le m ws (omega arith)
-
-    go : Order i m → get_or ws i 0 ≡ get_or (take m ws) i 0 + hit (get_or ws m 0) m i
-    go (below k) = omega (arith, get_or-take m ws i 0 k, hit_no (get_or ws m 0) m i (omega arith))
-    go (equal k) =
-        omega (
-          arith,
-          get_or-eq_default (take m ws) 0 {n = i} (omega (arith, front)),
-          hit_yes (get_or ws m 0) m i k,
-          ap (λ (x : ℕ). get_or ws x 0) k,
-        )
-    go (above k) =
-        omega (
-          arith,
-          get_or-eq_default (take m ws) 0 {n = i} (omega (arith, front)),
-          get_or-eq_default ws 0 {n = i} (omega arith),
-          hit_no (get_or ws m 0) m i (omega arith),
-        )
+unfolding hit
+get_d_init ws m i h = grind (arith, common_steps)
 
 popped_suc : (s : Store) (m : ℕ) (ws : List ℕ) → Holds s (suc m) ws → Holds (pop.changed s (suc m)) (suc m - 1) (take (suc m - 1) ws)
 unfolding pop.changed

@@ -1,12 +1,11 @@
 -- A call's refusals in order are its rows in order: each test of a definition says what its row says in arithmetic, so the first test that holds
 -- is the first row whose case holds. Assumes nothing.
 use Prim.Native.Nat.{ℕ, ◌<◌, ◌≤◌}
-use native.Mathlib.Omega.{arith}
 use mathlib.Core.Bool.{Bool, true, false, not, ◌&&◌, ◌||◌}
 use mathlib.Core.Path.{◌≡◌, refl, sym, ap, ◌∙◌}
 use mathlib.Core.Logic.{◌⊎◌, inl, inr, ⊎_elim, ◌↔◌}
 use mathlib.Core.List.{List, [], ◌∷◌}
-use borrow.Author.Tests.{lt-ltb, le-leb, eq-eqb, eqb-true, ltb-true, leb-true}
+use Rattle.std.proofs.lemmas.Bool.{true≢false, not-true, not_from_false, lt-ltb, le-leb, eq-eqb, eqb-true, ltb-true, leb-true}
 use lib.Dec.{ltb, leb, eqb}
 use Rattle.counting.specs.Below.{some_below}
 use Rattle.counting.proofs.Below.{some_true, some_found}
@@ -19,7 +18,7 @@ abbrev pub Says : Bool → Type 0 → Type 0
 Says test Case = (test ≡ true) ↔ Case
 
 pub clash : (b : Bool) → b ≡ true → b ≡ false → ⊥
-clash b e q = let z : ◌≡◌ {A = Bool} true false = sym e ∙ q in let y : ◌≡◌ {A = ℕ} 0 1 = cc in omega arith
+clash b e q = true≢false (sym e ∙ q)
 
 pub says_less : (a b : ℕ) → Says (ltb a b) (a < b)
 says_less a b = (ltb-true a b, lt-ltb a b)
@@ -29,6 +28,12 @@ says_most a b = (leb-true a b, le-leb a b)
 
 pub says_is : (a b : ℕ) → Says (eqb a b) (a ≡ b)
 says_is a b = (eqb-true a b, eq-eqb a b)
+
+pub says_itself : (b : Bool) → Says b (b ≡ true)
+says_itself b = (λ e. e, λ e. e)
+
+pub says_false : (b : Bool) → Says (not b) (b ≡ false)
+says_false b = (not-true b, not_from_false b)
 
 pub says_not : (b : Bool) {Case : Type 0} → Says b Case → Says (not b) (Case → ⊥)
 says_not true {Case} f = (λ e. absurd (clash false e refl), λ h. absurd (h (f.0 refl)))

@@ -3,25 +3,21 @@
 use Prim.Native.Nat.{ℕ, zero, suc, ◌+◌, ◌-◌, ◌*◌, ◌/◌, ◌%◌, ◌^◌, ◌<◌}
 use native.Mathlib.Omega.{arith}
 use native.Mathlib.Nat.{mul_comm, pow-suc, div-div-eq-div-mul, div-eq_of_lt}
-use mathlib.Core.Bool.{Bool, true, false, cond, not, ◌&&◌}
+use mathlib.Core.Bool.{Bool, true, false, not, ◌&&◌, ◌||◌}
 use mathlib.Core.Path.{◌≡◌, refl, sym, ◌∙◌}
-use mathlib.Core.Logic.{◌⊎◌, inl, inr, ⊎_elim}
+use mathlib.Core.Logic.{inl, inr, ⊎_elim}
 use mathlib.Core.List.{List, [], ◌∷◌}
-use borrow.Author.Tests.{ltb-true, ltb-false}
 use lib.Pow.{pow_pos}
-use lib.Dec.{ltb, leb, eqb}
+use lib.Dec.{leb, eqb}
 use lib.ListN.{length, get_or}
+use Rattle.std.specs.Prelude.{Result}
+use Rattle.std.proofs.lemmas.Bool.{false_from_ne_true}
 use Rattle.counting.specs.Sum.{exceeds_u64}
-use Rattle.refusal.specs.Answers.{said_tells, counted_tells, weighed_tells, popped_tells, drawn_tells}
-use Rattle.refusal.specs.declared.Said.{Said}
-use Rattle.refusal.specs.declared.Counted.{Counted}
-use Rattle.refusal.specs.declared.Weighed.{Weighed}
-use Rattle.refusal.specs.declared.Popped.{Popped}
-use Rattle.refusal.specs.declared.Drawn.{Drawn}
+use Rattle.refusal.specs.Answers.{tells}
+use Rattle.refusal.specs.declared.Refusal.{Refusal}
 use Rattle.refusal.specs.declared.Drawing.{Drawing}
 use Rattle.words.specs.Below.{accepts, place}
 use Rattle.words.specs.Below as below
-use Rattle.words.specs.declared.Taken.{Taken}
 use Rattle.words.proofs.First.{no_first}
 use Rattle.weighted_tree.specs.Store.{Store, total, cell_at, children_at, sound_at}
 use Rattle.weighted_tree.specs.Path.{parents, path_of, sound_all}
@@ -53,15 +49,7 @@ says_full s n = says_or _ _ (says_is n 4096) (says_is n (length s))
 
 says_no_total : (s : Store) (n : ℕ) → Says (eqb (total s n) 0) (NoTotal s n)
 unfolding cell_at
-says_no_total s n = says_as (says_is (total s n) 0) (λ e. to (ltb 0 n) refl e) (λ h. from (ltb 0 n) refl h)
-  where
-    to : (b : Bool) → ltb 0 n ≡ b → ◌≡◌ {A = ℕ} (cond b (get_or s 0 0) 0) 0 → NoTotal s n
-    to true q e = inr e
-    to false q e = inl (omega (arith, ltb-false 0 n q))
-
-    from : (b : Bool) → ltb 0 n ≡ b → NoTotal s n → ◌≡◌ {A = ℕ} (cond b (get_or s 0 0) 0) 0
-    from true q h = ⊎_elim (λ (e : n ≡ 0). absurd (omega (arith, ltb-true 0 n q))) (λ (e : get_or s 0 0 ≡ 0). e) h
-    from false q h = refl
+says_no_total s n = says_as (says_is (total s n) 0) (λ e. grind arith) (λ h. grind arith)
 
 unsound_cell : (s : Store) (n i : ℕ) → Says (not (sound_at s n i)) (cell_at s n i < children_at s n i)
 unfolding sound_at
@@ -70,11 +58,11 @@ unsound_cell s n i = says_as (says_not (leb (children_at s n i) (cell_at s n i))
 says_damaged : (s : Store) (n : ℕ) (path : List ℕ) → Says (damaged s n path) (SomeUnsound s n path)
 unfolding damaged sound_all SomeUnsound children_at
 says_damaged s n [] = (λ e. absurd (clash false e refl), λ h. absurd h)
-says_damaged s n (i ∷ path) = go (sound_at s n i) refl (says_damaged s n path) (unsound_cell s n i)
+says_damaged s n (i ∷ path) = rw (not_and (sound_at s n i) (sound_all s n path)) (says_or _ _ (unsound_cell s n i) (says_damaged s n path))
   where
-    go : (b : Bool) → sound_at s n i ≡ b → Says (not (sound_all s n path)) (SomeUnsound s n path) → Says (not (sound_at s n i)) (cell_at s n i < cell_at s n (2 * i + 1) + cell_at s n (2 * i + 2)) → Says (not (b && sound_all s n path)) ((cell_at s n i < cell_at s n (2 * i + 1) + cell_at s n (2 * i + 2)) ⊎ SomeUnsound s n path)
-    go true q later own = (λ e. inr (later.0 e), λ h. ⊎_elim (λ (x : cell_at s n i < cell_at s n (2 * i + 1) + cell_at s n (2 * i + 2)). absurd (clash (not (sound_at s n i)) (own.1 x) (rw q))) (λ (y : SomeUnsound s n path). later.1 y) h)
-    go false q later own = (λ e. inl (own.0 (rw q)), λ h. refl)
+    not_and : (a b : Bool) → not (a && b) ≡ (not a || not b)
+    not_and true b = refl
+    not_and false b = refl
 
 -- the parents of a cell are its halves, counted from one
 half : (m t : ℕ) → (suc m + 1) / 2 ^ suc t ≡ (m / 2 + 1) / 2 ^ t
@@ -133,64 +121,60 @@ pub says_no_word : (T : ℕ) (pool : List ℕ) → Says (eqb (place T pool) 0) (
 says_no_word T pool =
     says_as (says_is (place T pool) 0)
     (λ z i l a. clash _ ((says_accepted T (get_or pool i 0)).1 a) ((no_first (accepts T) pool).0 z i l))
-    (λ h. (no_first (accepts T) pool).1 (λ i l. unaccepted i l h (accepts T (get_or pool i 0)) refl))
-  where
-    unaccepted : (i : ℕ) → i < length pool → NoWord T pool → (b : Bool) → accepts T (get_or pool i 0) ≡ b → b ≡ false
-    unaccepted i l h true e = absurd (h i l ((says_accepted T (get_or pool i 0)).0 e))
-    unaccepted i l h false e = refl
+    (λ h. (no_first (accepts T) pool).1 (λ i l. false_from_ne_true _ (λ e. h i l ((says_accepted T (get_or pool i 0)).0 e))))
 
 -- ---- the calls
-pub number_below_table : {pool : List ℕ} {T : ℕ} {r : Taken} → below.Promise pool T r → GivenBy (WordRows T pool) (below.tells r)
+pub number_below_table : {pool : List ℕ} {T : ℕ} {r : Result (ℕ × ℕ) Refusal} → below.Promise pool T r → GivenBy (WordRows T pool) (tells r)
 unfolding below.rule
 number_below_table {pool} {T} {r} p = rows_given _ _ (below.refusals T pool) (WordRows T pool) p.answer (refl, says_no_word T pool, tt)
 
-pub new_table : {s after : Store} {ws : List ℕ} {r : Counted} → new.Promise s ws r after → RefusedBy (NewRows s ws) (counted_tells r) s after
+pub new_table : {s after : Store} {ws : List ℕ} {r : Result ℕ Refusal} → new.Promise s ws r after → RefusedBy (NewRows s ws) (tells r) s after
 unfolding new.rule
 new_table {s} {after} {ws} {r} p =
     rows_kept _ _ (new.refusals s ws) (NewRows s ws) (new.changed s ws) s after p.answer p.store
     (refl, says_bad_count s (length ws), (refl, says_exceeds _, tt))
 
-pub is_valid_table : {s : Store} {n : ℕ} {r : Said} → is_valid.Promise s n r → GivenBy (CountRows s n) (said_tells r)
+pub is_valid_table : {s : Store} {n : ℕ} {r : Result Bool Refusal} → is_valid.Promise s n r → GivenBy (CountRows s n) (tells r)
 unfolding is_valid.rule
 is_valid_table {s} {n} {r} p = rows_given _ _ (is_valid.refusals s n) (CountRows s n) p.answer (refl, says_bad_count s n, tt)
 
-pub get_table : {s : Store} {n i : ℕ} {r : Weighed} → get.Promise s n i r → GivenBy (GetRows s n i) (weighed_tells r)
+pub get_table : {s : Store} {n i : ℕ} {r : Result ℕ Refusal} → get.Promise s n i r → GivenBy (GetRows s n i) (tells r)
 unfolding get.rule SomeUnsound
 get_table {s} {n} {i} {r} p =
     rows_given _ _ (get.refusals s n i) (GetRows s n i) p.answer
     (refl, says_bad_count s n, (refl, says_most n i, (refl, says_as (says_damaged s n (i ∷ [])) (λ h. ⊎_elim (λ x. x) (λ y. absurd y) h) (λ x. inl x), tt)))
 
-pub pop_table : {s after : Store} {n : ℕ} {r : Popped} → pop.Promise s n r after → RefusedBy (PopRows s n) (popped_tells r) s after
+pub pop_table : {s after : Store} {n : ℕ} {r : Result (ℕ × ℕ) Refusal} → pop.Promise s n r after → RefusedBy (PopRows s n) (tells r) s after
 unfolding pop.rule
 pop_table {s} {after} {n} {r} p =
     rows_kept _ _ (pop.refusals s n) (PopRows s n) (pop.changed s n) s after p.answer p.store
     (refl, says_bad_count s n, (refl, says_is n 0, (refl, says_path s n (n - 1), tt)))
 
-pub push_table : {s after : Store} {n w : ℕ} {r : Counted} → push.Promise s n w r after → RefusedBy (PushRows s n w) (counted_tells r) s after
+pub push_table : {s after : Store} {n w : ℕ} {r : Result ℕ Refusal} → push.Promise s n w r after → RefusedBy (PushRows s n w) (tells r) s after
 unfolding push.rule
 push_table {s} {after} {n} {w} {r} p =
     rows_kept _ _ (push.refusals s n w) (PushRows s n w) (push.changed s n w) s after p.answer p.store
     (refl, says_bad_count s n, (refl, says_full s n, (refl, says_parents s n n, (refl, says_exceeds _, tt))))
 
-pub update_table : {s after : Store} {n i w : ℕ} {r : Counted} → update.Promise s n i w r after → RefusedBy (UpdateRows s n i w) (counted_tells r) s after
+pub update_table : {s after : Store} {n i w : ℕ} {r : Result ℕ Refusal} → update.Promise s n i w r after → RefusedBy (UpdateRows s n i w) (tells r) s after
 unfolding update.rule
 update_table {s} {after} {n} {i} {w} {r} p =
     rows_kept _ _ (update.refusals s n i w) (UpdateRows s n i w) (update.changed s n i w) s after p.answer p.store
     (refl, says_bad_count s n, (refl, says_most n i, (refl, says_path s n i, (refl, says_exceeds _, tt))))
 
-pub walk_table : {s : Store} {n t : ℕ} {r : Drawn} → walk.Promise s n t r → GivenBy (WalkRows s n t) (drawn_tells r)
+pub walk_table : {s : Store} {n t : ℕ} {r : Result ℕ Refusal} → walk.Promise s n t r → GivenBy (WalkRows s n t) (tells r)
 unfolding walk.rule
 walk_table {s} {n} {t} {r} p =
     rows_given _ _ (walk.refusals s n t) (WalkRows s n t) p.answer
     (refl, says_bad_count s n, (refl, says_no_total s n, (refl, says_most _ t, (refl, says_damaged s n _, tt))))
 
 -- a refused draw consumes no words
-pub draw_table : {s : Store} {n : ℕ} {pool : List ℕ} {r : Drawing} → draw.Promise s n pool r → RefusedBy (DrawRows s n pool) (drawn_tells r.outcome) 0 r.words
+pub draw_table : {s : Store} {n : ℕ} {pool : List ℕ} {r : Drawing} → draw.Promise s n pool r → RefusedBy (DrawRows s n pool) (tells r.outcome) 0 r.words
 unfolding draw.rule
 draw_table {s} {n} {pool} {r} p =
     rows_kept _ _ (draw.refusals s n pool) (DrawRows s n pool) (place (total s n) pool) 0 r.words p.answer p.words
     (refl, says_bad_count s n, (refl, says_no_total s n, (refl, says_no_word _ pool, (refl, says_damaged s n _, tt))))
 
-pub is_sound_table : {s : Store} {n : ℕ} {r : Said} → is_sound.Promise s n r → GivenBy (CountRows s n) (said_tells r)
+pub is_sound_table : {s : Store} {n : ℕ} {r : Result Bool Refusal} → is_sound.Promise s n r → GivenBy (CountRows s n) (tells r)
 unfolding is_sound.rule
 is_sound_table {s} {n} {r} p = rows_given _ _ (is_sound.refusals s n) (CountRows s n) p.answer (refl, says_bad_count s n, tt)

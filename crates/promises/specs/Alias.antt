@@ -1,8 +1,8 @@
 -- What a built table is, and what it is for a table to draw each index as often as its weight says.
-use Rattle.std.specs.Prelude.{ℕ, ◌*◌, ◌<◌, ◌≡◌, List, length, get_or}
+use Rattle.std.specs.Prelude.{ℕ, ◌*◌, ◌<◌, ◌≡◌, List, length, get_or, Result}
 use Rattle.refusal.specs.Outcome.{gave}
-use Rattle.refusal.specs.Answers.{weighed_tells}
-use Rattle.refusal.specs.declared.Weighed.{Weighed}
+use Rattle.refusal.specs.Answers.{tells}
+use Rattle.refusal.specs.declared.Refusal.{Refusal}
 use Rattle.weighted_alias.specs.New as new
 use Rattle.alias_checker.specs.Check.{pairs_drawing}
 
@@ -14,9 +14,9 @@ Takes ws S = new.rule ws (length ws) (length ws) ≡ gave S
 pub record Built (ws odds links : List ℕ) (S : ℕ) : Type 0 where
   pub odds_found : List ℕ
   pub links_found : List ℕ
-  pub answer : Weighed
+  pub answer : Result ℕ Refusal
   pub promise : new.Promise ws odds_found links_found answer odds links
-  pub given : weighed_tells answer ≡ gave S
+  pub given : tells answer ≡ gave S
 
 -- of the n times S pairs (slot below n, number below S) exactly n times weight i draw index i, for every i
 abbrev pub DrawsEach : List ℕ → ℕ → List ℕ → List ℕ → Type 0

@@ -1,12 +1,8 @@
 -- A tree that one call after the other gets as its store: what a call may leave, and the weights as they were last given.
-use Rattle.std.specs.Prelude.{ℕ, ◌-◌, ◌≡◌, List, [], ◌∷◌, ◌++◌, length, set, take}
+use Rattle.std.specs.Prelude.{ℕ, Bool, ◌-◌, ◌≡◌, List, [], ◌∷◌, ◌++◌, length, set, take, Result}
 use Rattle.refusal.specs.Outcome.{Outcome, gave, refused, leaves}
-use Rattle.refusal.specs.Answers.{said_tells, counted_tells, weighed_tells, popped_tells, drawn_tells}
-use Rattle.refusal.specs.declared.Said.{Said}
-use Rattle.refusal.specs.declared.Counted.{Counted}
-use Rattle.refusal.specs.declared.Weighed.{Weighed}
-use Rattle.refusal.specs.declared.Popped.{Popped}
-use Rattle.refusal.specs.declared.Drawn.{Drawn}
+use Rattle.refusal.specs.Answers.{tells}
+use Rattle.refusal.specs.declared.Refusal.{Refusal}
 use Rattle.refusal.specs.declared.Drawing.{Drawing}
 use Rattle.weighted_tree.specs.Store.{Store}
 use Rattle.weighted_tree.specs.New as new
@@ -63,22 +59,22 @@ pub record After {A : Type 0} (c : Call) (o : Outcome A) (counted : A → ℕ) (
 
 -- one call from a state to the next, and the number that it tells: any answer and any store that its promise allows
 abbrev pub Step : Call → State → ℕ → State → Type 0
-Step (making ws) t k t' = (r : Counted) × new.Promise t.store ws r t'.store × After (making ws) (counted_tells r) (λ m. m) t k t'
-Step (pushing w) t k t' = (r : Counted) × push.Promise t.store t.count w r t'.store × After (pushing w) (counted_tells r) (λ m. m) t k t'
-Step popping t k t' = (r : Popped) × pop.Promise t.store t.count r t'.store × After popping (popped_tells r) (λ v. v.1) t k t'
-Step (updating i w) t k t' = (r : Counted) × update.Promise t.store t.count i w r t'.store × After (updating i w) (counted_tells r) (λ m. t.count) t k t'
-Step validity t k t' = (r : Said) × (is_valid.Promise t.store t.count r × (t'.store ≡ t.store)) × After validity (said_tells r) (λ b. t.count) t k t'
-Step (getting i) t k t' = (r : Weighed) × (get.Promise t.store t.count i r × (t'.store ≡ t.store)) × After (getting i) (weighed_tells r) (λ w. t.count) t k t'
-Step (walking x) t k t' = (r : Drawn) × (walk.Promise t.store t.count x r × (t'.store ≡ t.store)) × After (walking x) (drawn_tells r) (λ i. t.count) t k t'
-Step (drawing pool) t k t' = (r : Drawing) × (draw.Promise t.store t.count pool r × (t'.store ≡ t.store)) × After (drawing pool) (drawn_tells r.outcome) (λ i. t.count) t k t'
-Step soundness t k t' = (r : Said) × (is_sound.Promise t.store t.count r × (t'.store ≡ t.store)) × After soundness (said_tells r) (λ b. t.count) t k t'
+Step (making ws) t k t' = (r : Result ℕ Refusal) × new.Promise t.store ws r t'.store × After (making ws) (tells r) (λ m. m) t k t'
+Step (pushing w) t k t' = (r : Result ℕ Refusal) × push.Promise t.store t.count w r t'.store × After (pushing w) (tells r) (λ m. m) t k t'
+Step popping t k t' = (r : Result (ℕ × ℕ) Refusal) × pop.Promise t.store t.count r t'.store × After popping (tells r) (λ v. v.1) t k t'
+Step (updating i w) t k t' = (r : Result ℕ Refusal) × update.Promise t.store t.count i w r t'.store × After (updating i w) (tells r) (λ m. t.count) t k t'
+Step validity t k t' = (r : Result Bool Refusal) × (is_valid.Promise t.store t.count r × (t'.store ≡ t.store)) × After validity (tells r) (λ b. t.count) t k t'
+Step (getting i) t k t' = (r : Result ℕ Refusal) × (get.Promise t.store t.count i r × (t'.store ≡ t.store)) × After (getting i) (tells r) (λ w. t.count) t k t'
+Step (walking x) t k t' = (r : Result ℕ Refusal) × (walk.Promise t.store t.count x r × (t'.store ≡ t.store)) × After (walking x) (tells r) (λ i. t.count) t k t'
+Step (drawing pool) t k t' = (r : Drawing) × (draw.Promise t.store t.count pool r × (t'.store ≡ t.store)) × After (drawing pool) (tells r.outcome) (λ i. t.count) t k t'
+Step soundness t k t' = (r : Result Bool Refusal) × (is_sound.Promise t.store t.count r × (t'.store ≡ t.store)) × After soundness (tells r) (λ b. t.count) t k t'
 
 -- a making that was not refused, over any store
 pub record Begun (t : State) : Type 0 where
   pub found : Store
-  pub answer : Counted
+  pub answer : Result ℕ Refusal
   pub promise : new.Promise found t.weights answer t.store
-  pub made : counted_tells answer ≡ gave t.count
+  pub made : tells answer ≡ gave t.count
 
 -- calls one after the other, each with the number that it told
 unfoldable pub History : State → List (Call × ℕ) → State → Type 0

@@ -1,13 +1,9 @@
 -- The export of a ziggurat round: what it leaves in the lent answer of five cells.
-use Rattle.std.specs.Prelude.{ℕ, Bool, List, [], ◌∷◌, Float}
-use Rattle.ziggurat.specs.declared.RoundNumbers.{RoundNumbers}
+use Rattle.std.specs.Prelude.{ℕ, Bool, List, Float}
 use Rattle.ziggurat.specs.declared.Rounding.{Rounding}
 use Rattle.ziggurat.specs.Round as round
-use Rattle.ziggurat.specs.Numbers.{round_numbers}
+use Rattle.ziggurat.specs.Numbers.{round_numbers, five}
 use Rattle.slot_draw.specs.Cells.{Promise}
-
-abbrev pub five : RoundNumbers → List ℕ
-five t = t.number ∷ t.kind ∷ t.first ∷ t.second ∷ t.words ∷ []
 
 abbrev pub rounding_cells : Rounding → List ℕ
 rounding_cells a = five (round_numbers a)

@@ -1,12 +1,12 @@
 // The cells of an answer.
-ghost use Rattle.std.specs.Prelude.{◌≡◌};
-ghost use Rattle.slot_draw.specs.Cells.{three};
+ghost use Rattle.slot_draw.specs.Cells.{Told};
 
 use refusal::Numbers;
 
 // Writes the three numbers of an answer.
-pub(crate) fn tell(answer: &mut [u64; 3], told: Numbers)
-    ensures { answer.new ≡ three told }
+pub(crate) fn tell<A: Into<Numbers>>(cells: &mut [u64; 3], answer: A)
+    ensures { Told (A.converts answer) cells.new }
 {
-    *answer = [told.number, told.first, told.second];
+    let told: Numbers = answer.into();
+    *cells = [told.number, told.first, told.second];
 }

@@ -4,43 +4,27 @@ ghost use Rattle.slot_draw.specs.Binomial as binv;
 ghost use Rattle.slot_draw.specs.Ziggurat as round;
 
 use crate::answer::tell;
-use binomial::{Binv, Method};
+use binomial::{Method, SetupNumbers};
+use ziggurat::RoundNumbers;
 
 // A setup is seven cells: the number, the kind, n, the bits of r, s and a, and the flip.
 pub fn slot_draw_binomial_new(n: u64, p: f64, setup: &mut [u64; 7])
     ensures { binv.New n p setup.new }
 {
-    let told = binomial::new(n, p).numbers();
-    *setup = [
-        told.number,
-        told.kind,
-        told.n,
-        told.r,
-        told.s,
-        told.a,
-        told.flip,
-    ];
+    *setup = SetupNumbers::from(binomial::new(n, p)).into();
 }
 
 // The setup that seven cells hold, whatever they are. Cell 0 is not looked at.
 fn method_of(setup: &[u64; 7]) -> Method
     ensures { result ≡ binv.method_of setup.now }
 {
-    let n = setup[2];
-    if setup[1] == 0 {
-        return Method::Constant(n);
-    }
-    let r = words::float_of(setup[3]);
-    let s = words::float_of(setup[4]);
-    let a = words::float_of(setup[5]);
-    let flip = setup[6] != 0;
-    Method::Binv(Binv { r, s, a, n, flip })
+    Method::from(SetupNumbers::from(*setup))
 }
 
 pub fn slot_draw_binomial_draw(setup: &[u64; 7], pool: &[u64], answer: &mut [u64; 3])
     ensures { binv.Draw setup.now pool.now answer.new }
 {
-    tell(answer, binomial::draw(method_of(setup), pool).numbers());
+    tell(answer, binomial::draw(method_of(setup), pool));
 }
 
 // A round is five cells: the number, the kind, the bits of its two floats, and the words.
@@ -53,6 +37,5 @@ pub fn slot_draw_ziggurat_round(
 )
     ensures { round.Round symmetric edges.now densities.now pool.now answer.new }
 {
-    let told = ziggurat::round(edges, densities, symmetric, pool).numbers();
-    *answer = [told.number, told.kind, told.first, told.second, told.words];
+    *answer = RoundNumbers::from(ziggurat::round(edges, densities, symmetric, pool)).into();
 }

@@ -4,16 +4,11 @@ ghost use Rattle.words.specs.Floats as floats;
 ghost use Rattle.slot_draw.specs.Words as below;
 
 use crate::answer::tell;
-use refusal::{Numbers, Refusal};
-use words::Taken;
 
 pub fn slot_draw_number_below(pool: &[u64], total: u64, answer: &mut [u64; 3])
     ensures { below.NumberBelow pool.now total answer.new }
 {
-    match words::number_below(pool, total) {
-        Taken::Target(target, place) => tell(answer, Numbers::given(target, place as u64)),
-        Taken::Nothing => tell(answer, Numbers::refused(Refusal::OutOfWords)),
-    }
+    tell(answer, words::number_below(pool, total));
 }
 
 pub fn slot_draw_unit(word: u64) -> f64

@@ -11,7 +11,7 @@ pub fn slot_draw_alias_new(
 )
     ensures { alias.New weights.now odds.old links.old answer.new odds.new links.new }
 {
-    tell(answer, weighted_alias::new(weights, odds, links).numbers());
+    tell(answer, weighted_alias::new(weights, odds, links));
 }
 
 pub fn slot_draw_alias_draw(
@@ -23,10 +23,7 @@ pub fn slot_draw_alias_draw(
 )
     ensures { alias.Draw odds.now links.now sum pool.now answer.new }
 {
-    tell(
-        answer,
-        weighted_alias::draw(odds, links, sum, pool).numbers(),
-    );
+    tell(answer, weighted_alias::draw(odds, links, sum, pool));
 }
 
 pub fn slot_draw_alias_check(
@@ -38,10 +35,7 @@ pub fn slot_draw_alias_check(
 )
     ensures { alias.Check weights.now odds.now links.now work.old answer.new work.new }
 {
-    tell(
-        answer,
-        alias_checker::check(weights, odds, links, work).numbers(),
-    );
+    tell(answer, alias_checker::check(weights, odds, links, work));
 }
 
 pub fn slot_draw_alias_weights(
@@ -53,8 +47,5 @@ pub fn slot_draw_alias_weights(
 )
     ensures { alias.Weights odds.now links.now sum output.old answer.new output.new }
 {
-    tell(
-        answer,
-        alias_checker::weights(odds, links, sum, output).numbers(),
-    );
+    tell(answer, alias_checker::weights(odds, links, sum, output));
 }
