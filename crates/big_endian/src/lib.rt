@@ -8,14 +8,10 @@ ghost use Rattle.big_endian.specs.Bytes.{from_bytes, spelled};
 pub fn number(bytes: &[u8]) -> u64
     ensures { result ≡ from_bytes (take 8 bytes.now) }
 {
-    let mut n: u64 = 0;
-    let mut i = 0;
-    while i < 8 {
-        if bytes.len() <= i {
-            return n;
-        }
-        n = n * 256 + bytes[i] as u64;
-        i = i + 1;
+    let first = &bytes[..bytes.len().min(8)];
+    let mut n = 0;
+    for byte in first {
+        n = n * 256 + u64::from(*byte);
     }
     n
 }
@@ -24,15 +20,12 @@ pub fn number(bytes: &[u8]) -> u64
 pub fn numbers(words: &mut [u64], bytes: &[u8], width: usize)
     ensures { words.new ≡ spelled width words.old bytes.now }
 {
-    let mut from = 0;
-    let mut i = 0;
-    while i < words.len() {
-        if bytes.len() - from < width {
+    let mut rest = bytes;
+    for word in words.iter_mut() {
+        let Some((first, others)) = rest.split_at_checked(width) else {
             return;
-        }
-        let to = from + width;
-        words[i] = number(&bytes[from..to]);
-        from = to;
-        i = i + 1;
+        };
+        *word = number(first);
+        rest = others;
     }
 }

@@ -1,70 +1,50 @@
 // Records from standard input: how many bytes a number has, how many bytes follow, and the numbers, each with its highest
 // byte first.
-ghost use Rattle.std.specs.Prelude.{◌≤◌, length, IfOk};
+use crate::stop::Stop;
+use std::io::BufRead;
 
-use std::io;
-use std::io::Read;
+const MOST_WORDS: usize = 32768;
 
-#[derive(Clone, Copy)]
-pub enum Next {
-    Record(usize),
-    End,
-    CutOff,
-    TooLong,
-    Malformed,
+const MOST_BYTES: usize = 8 * MOST_WORDS;
+
+// A stream of records, with the one that was read last.
+#[derive(Debug, Drop)]
+pub struct Input<R> {
+    stream: R,
+    bytes: [u8; MOST_BYTES],
+    words: [u64; MOST_WORDS],
 }
 
-// Reads until the buffer is full or the input ends, and says how many bytes it put at the buffer's start.
-fn read_full(input: &mut impl Read, buffer: &mut [u8]) -> io::Result<usize>
-    ensures { IfOk result (λ n. n ≤ length buffer.new) }
-{
-    let mut done = 0;
-    while done < buffer.len() {
-        let got = input.read(&mut buffer[done..])?;
-        if got == 0 {
-            return Ok(done);
+impl<R: BufRead> Input<R> {
+    pub fn new(stream: R) -> Self {
+        Input {
+            stream,
+            bytes: [0; MOST_BYTES],
+            words: [0; MOST_WORDS],
         }
-        done = done + got;
     }
-    Ok(done)
-}
 
-// Reads a record into the words, and says how many it has.
-pub(crate) fn read_record(
-    input: &mut impl Read,
-    bytes: &mut [u8],
-    words: &mut [u64],
-) -> io::Result<Next> {
-    let mut header = [0u8; 4];
-    let got = read_full(input, &mut header)?;
-    if got == 0 {
-        return Ok(Next::End);
+    // The words of the next record, or none at the end of the stream.
+    pub fn next_record(&mut self) -> Result<Option<&[u64]>, Stop<'_>> {
+        let Input {
+            stream,
+            bytes,
+            words,
+        } = self;
+        if stream.fill_buf()?.is_empty() {
+            return Ok(None);
+        }
+        let mut header = [0; 4];
+        stream.read_exact(&mut header)?;
+        let width = usize::from(header[0]);
+        let size = big_endian::number(&header[1..]) as usize;
+        if !(1..=8).contains(&width) || size % width != 0 {
+            return Err(Stop::Malformed);
+        }
+        let words = words.get_mut(..size / width).ok_or(Stop::TooLong)?;
+        let bytes = bytes.get_mut(..size).ok_or(Stop::TooLong)?;
+        stream.read_exact(bytes)?;
+        big_endian::numbers(words, bytes, width);
+        Ok(Some(words))
     }
-    if got < 4 {
-        return Ok(Next::CutOff);
-    }
-    let width = big_endian::number(&header[0..1]);
-    let size = big_endian::number(&header[1..4]);
-    if width == 0 {
-        return Ok(Next::Malformed);
-    }
-    if 8 < width {
-        return Ok(Next::Malformed);
-    }
-    if size % width != 0 {
-        return Ok(Next::Malformed);
-    }
-    let count = size / width;
-    if (words.len() as u64) < count {
-        return Ok(Next::TooLong);
-    }
-    if (bytes.len() as u64) < size {
-        return Ok(Next::TooLong);
-    }
-    let wanted = size as usize;
-    if read_full(input, &mut bytes[0..wanted])? < wanted {
-        return Ok(Next::CutOff);
-    }
-    big_endian::numbers(words, &bytes[0..wanted], width as usize);
-    Ok(Next::Record(count as usize))
 }

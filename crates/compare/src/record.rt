@@ -1,119 +1,76 @@
 // A record in memory: the call, the origin of its answer, and eight lists, each behind its length.
-ghost use Rattle.compare.specs.Parts.{Within};
-ghost use Rattle.std.specs.Prelude.{length};
+use crate::call::Call;
 
-// Where a list of a record lies: from its first number up to its end.
-#[derive(Clone, Copy)]
-pub enum Part {
-    Of(usize, usize),
-    Missing,
+#[derive(Clone, Copy, Debug, PartialEq, Eq)]
+pub struct Record<'a> {
+    pub call: Call,
+    // The numbers handed in.
+    pub numbers: &'a [u64],
+    pub lent: [&'a [u64]; 4],
+    pub answer: &'a [u64],
+    // What is to be left in the lent lists that the call changes.
+    pub left: [&'a [u64]; 2],
 }
 
-// What came of a record: the answers agree, they differ, the lent cells do, or it is no record.
-#[derive(Clone, Copy)]
-pub enum Verdict {
-    Same,
-    Answer,
-    Cells,
-    Malformed,
+// The list that the words begin with, behind its length, is taken off them.
+fn take_list<'a>(words: &mut &'a [u64]) -> Option<&'a [u64]> {
+    let (size, rest) = words.split_first()?;
+    let (list, rest) = rest.split_at_checked(usize::try_from(*size).ok()?)?;
+    *words = rest;
+    Some(list)
 }
 
-pub const NUMBERS: usize = 0;
-
-pub const LENT: usize = 1;
-
-pub const ANSWER: usize = 5;
-
-pub const AFTER: usize = 6;
-
-pub(crate) fn call(words: &[u64]) -> u64 {
-    if 0 < words.len() { words[0] } else { 0 }
-}
-
-// The list that starts at a place with its length.
-fn part_at(words: &[u64], at: usize) -> Part
-    ensures { Within (length words.now) result }
-{
-    if words.len() <= at {
-        return Part::Missing;
+impl<'a> Record<'a> {
+    // None where the call is unknown, a list is not all there, or more follows the last.
+    pub fn parse(words: &'a [u64]) -> Option<Record<'a>> {
+        let [call, _origin, lists @ ..] = words else {
+            return None;
+        };
+        let call = Call::try_from(*call).ok()?;
+        let mut rest = lists;
+        let numbers = take_list(&mut rest)?;
+        let lent = [
+            take_list(&mut rest)?,
+            take_list(&mut rest)?,
+            take_list(&mut rest)?,
+            take_list(&mut rest)?,
+        ];
+        let answer = take_list(&mut rest)?;
+        let left = [take_list(&mut rest)?, take_list(&mut rest)?];
+        let record = Record {
+            call,
+            numbers,
+            lent,
+            answer,
+            left,
+        };
+        rest.is_empty().then_some(record)
     }
-    let from = at + 1;
-    let size = words[at];
-    if ((words.len() - from) as u64) < size {
-        return Part::Missing;
-    }
-    Part::Of(from, from + size as usize)
-}
 
-// The list of a number: 0 the numbers handed in, 1 to 4 what was lent, 5 the answer, 6 and 7 what was left.
-pub(crate) fn list(words: &[u64], which: usize) -> Part
-    ensures { Within (length words.now) result }
-{
-    let mut at = 2;
-    let mut passed = 0;
-    while passed < which {
-        match part_at(words, at) {
-            Part::Of(_, to) => {
-                at = to;
-            }
-            Part::Missing => {
-                return Part::Missing;
-            }
+    // A number handed in, and 0 where the record has none.
+    pub fn number(&self, which: usize) -> u64 {
+        self.numbers.get(which).copied().unwrap_or(0)
+    }
+
+    // The lent list that the call may change, and an empty one where it changes none.
+    pub fn changed(&self) -> &'a [u64] {
+        let [first, second, third, fourth] = self.lent;
+        match self.call {
+            Call::New | Call::Pop | Call::Push | Call::Update => first,
+            Call::AliasNew => second,
+            Call::AliasWeights => third,
+            Call::AliasCheck => fourth,
+            _ => &[],
         }
-        passed = passed + 1;
     }
-    part_at(words, at)
-}
 
-// Whether the eight lists are all there, and nothing behind them.
-pub(crate) fn whole(words: &[u64]) -> bool {
-    match list(words, 7) {
-        Part::Of(_, to) => to == words.len(),
-        Part::Missing => false,
-    }
-}
-
-// The numbers of a list, and none where it is missing.
-pub(crate) fn numbers(words: &[u64], which: usize) -> &[u64] {
-    match list(words, which) {
-        Part::Of(from, to) => &words[from..to],
-        Part::Missing => &words[0..0],
-    }
-}
-
-// A number handed in, and 0 where the record has none.
-pub(crate) fn number(words: &[u64], which: usize) -> u64 {
-    let handed = numbers(words, NUMBERS);
-    if which < handed.len() {
-        handed[which]
-    } else {
-        0
-    }
-}
-
-// Whether two lists of numbers are the same.
-pub(crate) fn same(a: &[u64], b: &[u64]) -> bool {
-    if a.len() != b.len() {
-        return false;
-    }
-    let mut i = 0;
-    while i < a.len() {
-        if a[i] != b[i] {
-            return false;
+    // The lent list that has the links of a table, and an empty one where a call has none.
+    pub fn linked(&self) -> &'a [u64] {
+        let [_, second, third, _] = self.lent;
+        match self.call {
+            Call::AliasDraw | Call::AliasWeights => second,
+            Call::AliasNew | Call::AliasCheck => third,
+            _ => &[],
         }
-        i = i + 1;
-    }
-    true
-}
-
-// Copies numbers to the front of the room, as far as it goes.
-pub(crate) fn fill(room: &mut [u64], numbers: &[u64]) {
-    let mut i = 0;
-    while i < numbers.len() {
-        if room.len() <= i {
-            return;
-        }
-        room[i] = numbers[i];
-        i = i + 1;
     }
 }

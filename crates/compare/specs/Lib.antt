@@ -1,2 +1,0 @@
--- What the reader of records keeps true.
-pub mod Parts
