@@ -1,228 +1,136 @@
 // What the program is asked for.
 ghost use Rattle.std.specs.Prelude.{◌≤◌, length};
 
-use crate::text;
-use crate::text::{Read, same};
+use crate::cache::Limits;
+use crate::report::Format;
+use crate::run::Plan;
+use crate::tree::{Build, SLOTS};
 use std::env::FillError;
-use std::io;
+use std::error::Error;
 use std::io::Write;
+use std::ops::RangeInclusive;
 use std::rt::Env;
+use std::{fmt, io};
 
-pub const MOST_PAGES: u64 = 100000;
+const MOST_SLOTS: u64 = SLOTS as u64;
 
-const LEAST_HEAP: u64 = 65536;
-
-const MOST_HEAP: u64 = 1073741824;
-
-const LEAST_SLOTS: u64 = 513;
-
-const MOST_SLOTS: u64 = 4096;
-
-// words is the place among the arguments of the file's name, 0 where there is none.
-#[derive(Clone, Copy)]
+// A run, and the place among the arguments of the name of the file of its words, where it has one.
+#[derive(Clone, Copy, Debug, PartialEq, Eq)]
 pub struct Settings {
-    pub pages: u64,
-    pub heap: u64,
-    pub slots: u64,
-    pub words: usize,
-    pub is_faulty: bool,
-    pub is_csv: bool,
-    pub is_help: bool,
-    pub is_bad: bool,
+    pub plan: Plan,
+    pub limits: Limits,
+    pub words_place: Option<usize>,
 }
 
-// The options.
-#[derive(Clone, Copy)]
-enum Flag {
-    Pages,
-    Heap,
-    Slots,
-    Words,
-    Fault,
-    Csv,
+impl Default for Settings {
+    fn default() -> Settings {
+        Settings {
+            plan: Plan {
+                pages: 600,
+                format: Format::Table,
+            },
+            limits: Limits {
+                heap: 8388608,
+                slots: MOST_SLOTS,
+                build: Build::Sound,
+            },
+            words_place: None,
+        }
+    }
+}
+
+#[derive(Clone, Copy, Debug, PartialEq, Eq)]
+pub enum Request {
     Help,
-    Unknown,
+    Simulate(Settings),
 }
 
-// An option with no value.
-fn switch_named(name: &[u8]) -> Flag {
-    if same(name, b"--fault") {
-        Flag::Fault
-    } else if same(name, b"--csv") {
-        Flag::Csv
-    } else if same(name, b"--help") {
-        Flag::Help
-    } else {
-        Flag::Unknown
+// An argument that is unknown, lacks its value or is out of its range; or more arguments than are looked at.
+#[derive(Clone, Copy, Debug, PartialEq, Eq)]
+pub struct BadArgument;
+
+impl fmt::Display for BadArgument {
+    fn fmt<W: fmt::Write>(&self, f: &mut fmt::Formatter<W>) -> fmt::Result {
+        f.write_str("an argument is unknown, lacks its value or is out of its range")
     }
 }
 
-// Any option.
-fn flag_named(name: &[u8]) -> Flag {
-    if same(name, b"--pages") {
-        Flag::Pages
-    } else if same(name, b"--heap") {
-        Flag::Heap
-    } else if same(name, b"--slots") {
-        Flag::Slots
-    } else if same(name, b"--words") {
-        Flag::Words
-    } else {
-        switch_named(name)
-    }
-}
+impl Error for BadArgument {}
 
 // The bytes of the longest argument that is read.
 pub const LONGEST: usize = 4096;
 
-// Puts an argument at the start of the buffer and says how long it is, 0 where it is missing or too long.
-pub(crate) fn argument(rt: &impl Env, place: usize, buffer: &mut [u8]) -> usize
-    ensures { result ≤ length buffer.new }
+// An argument, which is read into the start of the buffer; nothing where it is missing or too long.
+pub(crate) fn argument<'a>(rt: &impl Env, place: usize, buffer: &'a mut [u8]) -> &'a [u8]
+    ensures { length result.now ≤ length buffer.old }
 {
     match rt.arg(place, buffer) {
-        Ok(length) => length,
-        Err(_) => 0,
+        Ok(length) => &buffer[..length],
+        Err(_) => &[],
     }
 }
 
-fn flag_at(rt: &impl Env, place: usize) -> Flag {
-    let mut name = [0u8; LONGEST];
-    let length = argument(rt, place, &mut name);
-    flag_named(&name[..length])
+const MOST_DIGITS: usize = 12;
+
+// A number of decimal digits, at most twelve of them.
+fn number(text: &[u8]) -> Option<u64> {
+    if MOST_DIGITS < text.len() || !text.iter().all(|byte| byte.is_ascii_digit()) {
+        return None;
+    }
+    std::str::from_utf8(text).ok()?.parse().ok()
 }
 
-fn number_at(rt: &impl Env, place: usize) -> Read {
-    let mut digits = [0u8; LONGEST];
-    let length = argument(rt, place, &mut digits);
-    text::number(&digits[..length])
-}
-
-fn is_within(value: u64, least: u64, most: u64) -> bool {
-    if value < least {
-        return false;
-    }
-    value <= most
-}
-
-impl Settings {
-    fn new() -> Settings {
-        Settings {
-            pages: 600,
-            heap: 8388608,
-            slots: MOST_SLOTS,
-            words: 0,
-            is_faulty: false,
-            is_csv: false,
-            is_help: false,
-            is_bad: false,
-        }
-    }
-
-    // The settings with a number of pages, bytes or slots.
-    fn with(mut self, flag: Flag, value: u64) -> Settings {
-        match flag {
-            Flag::Pages => {
-                self.pages = value;
-                self.is_bad = self.is_bad || !is_within(value, 1, MOST_PAGES);
-            }
-            Flag::Heap => {
-                self.heap = value;
-                self.is_bad = self.is_bad || !is_within(value, LEAST_HEAP, MOST_HEAP);
-            }
-            _ => {
-                self.slots = value;
-                self.is_bad = self.is_bad || !is_within(value, LEAST_SLOTS, MOST_SLOTS);
-            }
-        }
-        self
-    }
-
-    // The settings with a number that stands at a place.
-    fn with_number(mut self, rt: &impl Env, flag: Flag, place: usize) -> Settings {
-        match number_at(rt, place) {
-            Read::Number(value) => self.with(flag, value),
-            Read::Bad => {
-                self.is_bad = true;
-                self
-            }
-        }
-    }
-
-    // The settings with an option that has no number.
-    fn switched(mut self, flag: Flag, next: usize, count: usize) -> Settings {
-        match flag {
-            Flag::Words => {
-                self.words = next;
-                self.is_bad = self.is_bad || count <= next;
-            }
-            Flag::Fault => {
-                self.is_faulty = true;
-            }
-            Flag::Csv => {
-                self.is_csv = true;
-            }
-            Flag::Help => {
-                self.is_help = true;
-            }
-            _ => {
-                self.is_bad = true;
-            }
-        }
-        self
+// The number at a place, which has to be in a range.
+fn number_in(
+    rt: &impl Env,
+    place: Option<usize>,
+    range: RangeInclusive<u64>,
+) -> Result<u64, BadArgument> {
+    let mut buffer = [0; LONGEST];
+    match number(argument(rt, place.ok_or(BadArgument)?, &mut buffer)) {
+        Some(value) if range.contains(&value) => Ok(value),
+        _ => Err(BadArgument),
     }
 }
 
 // The most arguments that are looked at: each option twice is fewer.
 const MOST_ARGUMENTS: usize = 32;
 
-// The settings after the option at a place, whose value may stand at the next.
-fn option(rt: &impl Env, settings: Settings, flag: Flag, next: usize, count: usize) -> Settings {
-    match flag {
-        Flag::Pages => settings.with_number(rt, flag, next),
-        Flag::Heap => settings.with_number(rt, flag, next),
-        Flag::Slots => settings.with_number(rt, flag, next),
-        _ => settings.switched(flag, next, count),
-    }
+// Whether there is no argument at a place.
+fn is_past_end(rt: &impl Env, place: usize) -> bool {
+    let mut start = [0; 1];
+    matches!(rt.arg(place, &mut start), Err(FillError::NotPresent))
 }
 
-// How many arguments an option takes.
-fn width(flag: Flag) -> usize
-    ensures { (1 ≤ result) × (result ≤ 2) }
-{
-    match flag {
-        Flag::Pages => 2,
-        Flag::Heap => 2,
-        Flag::Slots => 2,
-        Flag::Words => 2,
-        _ => 1,
-    }
+// How many arguments there are, the program's name among them.
+fn count(rt: &impl Env) -> Result<usize, BadArgument> {
+    (0..=MOST_ARGUMENTS)
+        .find(|place| is_past_end(rt, *place))
+        .ok_or(BadArgument)
 }
 
-// How many arguments there are, the program's name among them; one more than MOST_ARGUMENTS stands for all above.
-fn count(rt: &impl Env) -> usize {
-    for place in 0..MOST_ARGUMENTS + 1 {
-        let mut start = [0u8; 1];
-        if let Err(FillError::NotPresent) = rt.arg(place, &mut start) {
-            return place;
+pub(crate) fn read(rt: &impl Env) -> Result<Request, BadArgument> {
+    let mut settings = Settings::default();
+    let mut is_help = false;
+    let mut places = 1..count(rt)?;
+    while let Some(place) = places.next() {
+        let mut buffer = [0; LONGEST];
+        match argument(rt, place, &mut buffer) {
+            b"--pages" => settings.plan.pages = number_in(rt, places.next(), 1..=100000)?,
+            b"--heap" => settings.limits.heap = number_in(rt, places.next(), 65536..=1073741824)?,
+            b"--slots" => settings.limits.slots = number_in(rt, places.next(), 513..=MOST_SLOTS)?,
+            b"--words" => settings.words_place = Some(places.next().ok_or(BadArgument)?),
+            b"--fault" => settings.limits.build = Build::Old,
+            b"--csv" => settings.plan.format = Format::Csv,
+            b"--help" => is_help = true,
+            _ => return Err(BadArgument),
         }
     }
-    MOST_ARGUMENTS + 1
-}
-
-pub(crate) fn read(rt: &impl Env) -> Settings {
-    let count = count(rt);
-    let mut settings = Settings::new();
-    if MOST_ARGUMENTS < count {
-        settings.is_bad = true;
-        return settings;
+    if is_help {
+        Ok(Request::Help)
+    } else {
+        Ok(Request::Simulate(settings))
     }
-    let mut place = 1;
-    while place < count {
-        let flag = flag_at(rt, place);
-        settings = option(rt, settings, flag, place + 1, count);
-        place = place + width(flag);
-    }
-    settings
 }
 
 pub(crate) fn usage(out: &mut impl Write) -> io::Result<()> {
@@ -242,8 +150,8 @@ Loads pages of glyphs into a bounded heap, and evicts glyphs by lottery.
     )
 }
 
-// Says that the arguments are none of these.
-pub(crate) fn complain(errors: &mut impl Write) -> io::Result<()> {
-    errors.write_all(b"lottery: an argument is unknown, lacks its value or is out of its range\n")?;
+// Says what is wrong with the arguments, and what they may be.
+pub(crate) fn complain(errors: &mut impl Write, bad: BadArgument) -> io::Result<()> {
+    writeln!(errors, "lottery: {bad}")?;
     usage(errors)
 }

@@ -1,15 +1,17 @@
 // The fault of the old build, for its replay: nothing else calls this.
-use crate::sums::{cell, lower, put};
+use std::mem;
 
 // Removes the last slot, takes its weight from its first parent, and leaves it in the grandparents.
-pub(crate) fn pop(store: &mut [u64], count: usize) -> usize {
-    if count < 2 {
-        put(store, 0, 0);
-        return 0;
+pub(crate) fn pop(cells: &mut [u64], count: usize) -> usize {
+    let last = count.saturating_sub(1);
+    let Some(cell) = cells.get_mut(last) else {
+        return last;
+    };
+    let weight = mem::take(cell);
+    if 0 < last
+        && let Some(parent) = cells.get_mut((last - 1) / 2)
+    {
+        *parent = parent.saturating_sub(weight);
     }
-    let last = count - 1;
-    let weight = cell(store, last);
-    lower(store, (last - 1) / 2, weight);
-    put(store, last, 0);
     last
 }

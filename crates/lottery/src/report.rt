@@ -1,334 +1,234 @@
 // What is printed: a table of pages, the checks at the end, and how often each class of weight was drawn.
-use crate::cache::{Cache, Limits};
+use crate::cache::{Cache, Limits, Tally};
+use crate::check;
 use crate::check::Seen;
-use crate::sums::{minus, plus};
-use crate::text::{column, say, show};
-use crate::{check, share};
+use crate::share::{Class, Shares, WHOLE, part};
+use crate::tree::Build;
+use std::fmt::Display;
 use std::io;
 use std::io::Write;
+use std::num::Saturating;
 
-fn line(out: &mut impl Write, label: &[u8], number: u64) -> io::Result<()> {
-    say(out, label)?;
-    column(out, number)?;
-    say(out, b"\n")
+// How numbers are printed: at the right of columns, with text beside them, or with commas alone.
+#[derive(Clone, Copy, Debug, PartialEq, Eq)]
+pub enum Format {
+    Table,
+    Csv,
 }
 
-// A number of a row behind its first.
-fn item(out: &mut impl Write, number: u64, is_csv: bool) -> io::Result<()> {
-    if is_csv {
-        say(out, b",")?;
-        show(out, number)
-    } else {
-        column(out, number)
+impl Format {
+    // The numbers of a row.
+    fn row(self, out: &mut impl Write, numbers: &[u64]) -> io::Result<()> {
+        for (i, number) in numbers.iter().enumerate() {
+            match self {
+                Format::Table => write!(out, "{number:>10}")?,
+                Format::Csv if i == 0 => write!(out, "{number}")?,
+                Format::Csv => write!(out, ",{number}")?,
+            }
+        }
+        writeln!(out)
     }
 }
 
-pub(crate) fn head(out: &mut impl Write, limits: Limits, is_csv: bool) -> io::Result<()> {
-    if is_csv {
-        return say(
-            out,
-            b"page,slots,held,weight,given,freed,draws,empty,words\n",
-        );
+// A label, and at the right of a column what it is about.
+fn line<T: Display>(out: &mut impl Write, label: &str, value: &T) -> io::Result<()> {
+    writeln!(out, "{label:<49}{value:>10}")
+}
+
+pub(crate) fn head(out: &mut impl Write, format: Format, limits: Limits) -> io::Result<()> {
+    if format == Format::Csv {
+        return writeln!(out, "page,slots,held,weight,given,freed,draws,empty,words");
     }
-    line(
-        out,
-        b"heap, bytes                                      ",
-        limits.heap,
-    )?;
-    line(
-        out,
-        b"slots, at most                                   ",
-        limits.slots,
-    )?;
-    if limits.is_faulty {
-        say(out, b"the last slot is popped as the old build did\n")?;
+    line(out, "heap, bytes", &limits.heap)?;
+    line(out, "slots, at most", &limits.slots)?;
+    if limits.build == Build::Old {
+        writeln!(out, "the last slot is popped as the old build did")?;
     }
-    say(
-        out,
+    out.write_all(
         b"
       page     slots      held    weight     given     freed     draws     empty     words
 ",
     )
 }
 
-// A page: what the cache has, and what it did since it was as before.
+// A page: what the cache has, and what was done.
 pub(crate) fn row(
     out: &mut impl Write,
+    format: Format,
     page: u64,
-    before: Cache,
-    after: Cache,
-    weight: u64,
-    is_csv: bool,
+    cache: &Cache,
+    done: Tally,
 ) -> io::Result<()> {
-    if is_csv {
-        show(out, page)?;
-    } else {
-        column(out, page)?;
+    let numbers = [
+        page,
+        cache.tree.count() as u64,
+        cache.held.0,
+        cache.tree.total(),
+        done.given.0,
+        done.freed.0,
+        done.draws.0,
+        done.empty.0,
+        done.words.0,
+    ];
+    format.row(out, &numbers)
+}
+
+// What became of the bytes, and what the tree says.
+fn numbers(out: &mut impl Write, cache: &Cache) -> io::Result<()> {
+    let held = cache.held.0;
+    let weight = cache.tree.total();
+    let above = held.saturating_sub(cache.limits.heap_mark());
+    let stray = weight.saturating_sub(held);
+    let wrong = check::wrong_slots(cache);
+    let numbers = [
+        ("bytes given out", cache.tally.given.0),
+        ("bytes freed", cache.tally.freed.0),
+        ("bytes held", held),
+        ("bytes held above three quarters of the heap", above),
+        ("weight of all slots", weight),
+        ("weight that belongs to no bitmap", stray),
+        ("draws that freed nothing", cache.tally.empty.0),
+        ("calls of the tree that were refused", cache.tally.refused.0),
+        ("slots whose weight is not their bitmap's bytes", wrong),
+    ];
+    writeln!(out)?;
+    for (label, number) in numbers {
+        line(out, label, &number)?;
     }
-    item(out, after.count as u64, is_csv)?;
-    item(out, after.held, is_csv)?;
-    item(out, weight, is_csv)?;
-    item(out, minus(after.given, before.given), is_csv)?;
-    item(out, minus(after.freed, before.freed), is_csv)?;
-    item(out, minus(after.draws, before.draws), is_csv)?;
-    item(out, minus(after.empty, before.empty), is_csv)?;
-    item(out, minus(after.words, before.words), is_csv)?;
-    say(out, b"\n")
-}
-
-// What became of the bytes.
-pub(crate) fn bytes(out: &mut impl Write, cache: Cache, limits: Limits) -> io::Result<()> {
-    line(
-        out,
-        b"\nbytes given out                                  ",
-        cache.given,
-    )?;
-    line(
-        out,
-        b"bytes freed                                      ",
-        cache.freed,
-    )?;
-    line(
-        out,
-        b"bytes held                                       ",
-        cache.held,
-    )?;
-    let mark = limits.heap - limits.heap / 4;
-    line(
-        out,
-        b"bytes held above three quarters of the heap      ",
-        minus(cache.held, mark),
-    )
-}
-
-// What the tree says.
-pub(crate) fn weights(
-    out: &mut impl Write,
-    store: &[u64],
-    book: &[u64],
-    cache: Cache,
-) -> io::Result<()> {
-    let count = cache.count;
-    let weight = check::total(store, count);
-    line(
-        out,
-        b"weight of all slots                              ",
-        weight,
-    )?;
-    line(
-        out,
-        b"weight that belongs to no bitmap                 ",
-        minus(weight, cache.held),
-    )?;
-    line(
-        out,
-        b"draws that freed nothing                         ",
-        cache.empty,
-    )?;
-    line(
-        out,
-        b"calls of the tree that were refused              ",
-        cache.refused,
-    )?;
-    let wrong = check::wrong_slots(store, book, count);
-    line(
-        out,
-        b"slots whose weight is not their bitmap's bytes   ",
-        wrong,
-    )
-}
-
-fn verdict(out: &mut impl Write, label: &[u8], is_so: bool) -> io::Result<()> {
-    say(out, label)?;
-    if is_so {
-        say(out, b"       yes\n")
-    } else {
-        say(out, b"        NO\n")
-    }
+    Ok(())
 }
 
 // Whether no byte is lost, no slot has lost its weight, and the tree says the same as the bitmaps.
-pub(crate) fn verdicts(
-    out: &mut impl Write,
-    store: &[u64],
-    book: &[u64],
-    cache: Cache,
-) -> io::Result<()> {
-    let count = cache.count;
-    let known = plus(cache.freed, cache.held);
-    verdict(
-        out,
-        b"every byte given out was freed or is held        ",
-        cache.given == known,
-    )?;
-    verdict(
-        out,
-        b"each slot's weight is its bitmap's bytes         ",
-        check::wrong_slots(store, book, count) == 0,
-    )?;
-    let weight = check::total(store, count);
-    verdict(
-        out,
-        b"the weight of all slots is the bytes held        ",
-        weight == cache.held,
-    )?;
-    verdict(
-        out,
-        b"is_sound, the whole-store check, says yes        ",
-        check::is_sound(store, count),
-    )
-}
-
-// A page, or never.
-fn first(out: &mut impl Write, label: &[u8], page: u64) -> io::Result<()> {
-    if page == 0 {
-        say(out, label)?;
-        say(out, b"     never\n")
-    } else {
-        line(out, label, page)
+fn verdicts(out: &mut impl Write, cache: &Cache) -> io::Result<()> {
+    let is_kept = cache.tally.given == cache.tally.freed + cache.held;
+    let is_right = check::wrong_slots(cache) == 0;
+    let is_whole = cache.tree.total() == cache.held.0;
+    let is_sound = cache.tree.is_sound();
+    let verdicts = [
+        ("every byte given out was freed or is held", is_kept),
+        ("each slot's weight is its bitmap's bytes", is_right),
+        ("the weight of all slots is the bytes held", is_whole),
+        ("is_sound, the whole-store check, says yes", is_sound),
+    ];
+    for (label, is_so) in verdicts {
+        line(out, label, &if is_so { "yes" } else { "NO" })?;
     }
+    Ok(())
 }
 
 // When something went wrong.
-pub(crate) fn seen(out: &mut impl Write, seen: Seen) -> io::Result<()> {
-    say(out, b"\nfirst page at which\n")?;
-    first(
-        out,
-        b"  a slot's weight is not its bitmap's bytes      ",
-        seen.slot,
-    )?;
-    first(
-        out,
-        b"  the weight of all slots is not the bytes held  ",
-        seen.total,
-    )?;
-    first(
-        out,
-        b"  is_sound, the whole-store check, says no       ",
-        seen.unsound,
-    )?;
-    first(
-        out,
-        b"  a draw fell where there is nothing to free     ",
-        seen.empty,
-    )?;
-    first(
-        out,
-        b"  there is no room for all glyphs of a page      ",
-        seen.unshown,
-    )?;
-    line(
-        out,
-        b"pages                                            ",
-        seen.pages,
-    )?;
-    line(
-        out,
-        b"pages that could not be shown                    ",
-        seen.pages_unshown,
-    )?;
+fn seen(out: &mut impl Write, seen: Seen) -> io::Result<()> {
+    let firsts = [
+        ("  a slot's weight is not its bitmap's bytes", seen.slot),
+        (
+            "  the weight of all slots is not the bytes held",
+            seen.total,
+        ),
+        ("  is_sound, the whole-store check, says no", seen.unsound),
+        ("  a draw fell where there is nothing to free", seen.empty),
+        ("  there is no room for all glyphs of a page", seen.unshown),
+    ];
+    writeln!(out, "\nfirst page at which")?;
+    for (label, first) in firsts {
+        match first {
+            Some(page) => line(out, label, &page)?,
+            None => line(out, label, &"never")?,
+        }
+    }
+    line(out, "pages", &seen.pages)?;
+    line(out, "pages that could not be shown", &seen.pages_unshown)?;
     if seen.is_out_of_words {
-        say(out, b"the file has no words for a page more\n")?;
+        writeln!(out, "the file has no words for a page more")?;
     }
     Ok(())
 }
 
-// The same with commas.
-pub(crate) fn seen_csv(out: &mut impl Write, seen: Seen) -> io::Result<()> {
-    say(out, b"\ntotal,slot,empty,unsound,unshown,pages_unshown\n")?;
-    show(out, seen.total)?;
-    item(out, seen.slot, true)?;
-    item(out, seen.empty, true)?;
-    item(out, seen.unsound, true)?;
-    item(out, seen.unshown, true)?;
-    item(out, seen.pages_unshown, true)?;
-    say(out, b"\n")
+// The same with commas, and 0 for never.
+fn seen_csv(out: &mut impl Write, seen: Seen) -> io::Result<()> {
+    let numbers = [
+        seen.total.unwrap_or(0),
+        seen.slot.unwrap_or(0),
+        seen.empty.unwrap_or(0),
+        seen.unsound.unwrap_or(0),
+        seen.unshown.unwrap_or(0),
+        seen.pages_unshown.0,
+    ];
+    writeln!(out, "\ntotal,slot,empty,unsound,unshown,pages_unshown")?;
+    Format::Csv.row(out, &numbers)
 }
 
 // Why is_sound says yes to the old fault.
-pub(crate) fn remark(out: &mut impl Write, limits: Limits) -> io::Result<()> {
-    if limits.is_faulty {
-        say(
-            out,
-            b"
+fn remark(out: &mut impl Write, build: Build) -> io::Result<()> {
+    if build != Build::Old {
+        return Ok(());
+    }
+    out.write_all(
+        b"
 The weight that the old pop leaves in the grandparents makes a cell larger than its children together, never smaller.
 So is_sound, which has no more than the store, can't see it. The comparison with the bitmaps' bytes does.
 ",
-        )?;
-    }
-    Ok(())
+    )
 }
 
 // Parts of 1,048,576 in percent, with two digits behind the point.
 fn percent(out: &mut impl Write, part: u64) -> io::Result<()> {
-    if share::WHOLE < part {
+    if WHOLE < part {
         return Ok(());
     }
-    let hundredths = (part * 10000 + share::WHOLE / 2) / share::WHOLE;
-    column(out, hundredths / 100)?;
-    say(out, b".")?;
-    show(out, hundredths / 10 % 10)?;
-    show(out, hundredths % 10)
+    let hundredths = (part * 10000 + WHOLE / 2) / WHOLE;
+    write!(out, "{:>10}.{:02}", hundredths / 100, hundredths % 100)
 }
 
-// The smallest bitmap of a class.
-fn least_of(class: usize) -> u64 {
-    match class {
-        0 => 0,
-        1 => 2048,
-        2 => 4096,
-        3 => 8192,
-        4 => 16384,
-        _ => 32768,
-    }
-}
-
-// With commas what is promised stands in parts of 1,048,576 of a draw.
-fn class_row(
-    out: &mut impl Write,
-    book: &[u64],
-    class: usize,
-    draws: u64,
-    is_csv: bool,
-) -> io::Result<()> {
-    let drawn = share::drawn(book, class);
-    let promised = share::promised(book, class);
-    if is_csv {
-        show(out, least_of(class))?;
-        item(out, drawn, true)?;
-        item(out, promised, true)?;
-        return say(out, b"\n");
-    }
-    column(out, least_of(class))?;
-    column(out, drawn)?;
-    column(out, plus(promised, share::WHOLE / 2) / share::WHOLE)?;
-    percent(out, share::part(drawn, draws))?;
-    percent(out, if draws == 0 { 0 } else { promised / draws })?;
-    say(out, b"\n")
+// A class of weight.
+fn class_row(out: &mut impl Write, class: Class, draws: u64) -> io::Result<()> {
+    let promised = (class.promised + Saturating(WHOLE / 2)).0 / WHOLE;
+    write!(out, "{:>10}{:>10}{promised:>10}", class.least, class.drawn)?;
+    percent(out, part(class.drawn.0, draws))?;
+    percent(out, class.promised.0.checked_div(draws).unwrap_or(0))?;
+    writeln!(out)
 }
 
 // A line for each class of weight.
-pub(crate) fn shares(
-    out: &mut impl Write,
-    book: &[u64],
-    draws: u64,
-    is_csv: bool,
-) -> io::Result<()> {
-    if is_csv {
-        say(out, b"\nleast,drawn,promised\n")?;
-    } else {
-        say(
-            out,
-            b"
+fn shares(out: &mut impl Write, shares: &Shares, draws: u64) -> io::Result<()> {
+    out.write_all(
+        b"
 slots by the bytes of their bitmap, 0 for the glyphs in flash
 bytes from     drawn  promised      drawn %   promised %
 ",
-        )?;
-    }
-    let mut class = 0;
-    while class < share::CLASSES {
-        class_row(out, book, class, draws, is_csv)?;
-        class = class + 1;
+    )?;
+    for class in shares.classes {
+        class_row(out, class, draws)?;
     }
     Ok(())
+}
+
+// The same with commas. What is promised stands in parts of 1,048,576 of a draw.
+fn shares_csv(out: &mut impl Write, shares: &Shares) -> io::Result<()> {
+    writeln!(out, "\nleast,drawn,promised")?;
+    for class in shares.classes {
+        Format::Csv.row(out, &[class.least, class.drawn.0, class.promised.0])?;
+    }
+    Ok(())
+}
+
+// What is printed at the end.
+pub(crate) fn end(
+    out: &mut impl Write,
+    format: Format,
+    cache: &Cache,
+    ended: Seen,
+) -> io::Result<()> {
+    match format {
+        Format::Csv => {
+            shares_csv(out, &cache.shares)?;
+            seen_csv(out, ended)
+        }
+        Format::Table => {
+            numbers(out, cache)?;
+            verdicts(out, cache)?;
+            seen(out, ended)?;
+            shares(out, &cache.shares, cache.tally.draws.0)?;
+            remark(out, cache.limits.build)
+        }
+    }
 }

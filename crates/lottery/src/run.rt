@@ -1,153 +1,79 @@
 // The simulation: page after page.
 use crate::cache::{Cache, Limits};
 use crate::check::Seen;
+use crate::report;
+use crate::report::Format;
 use crate::source::{Generator, Source};
-use crate::sums::minus;
-use crate::{cache, check, report, source};
 use std::io;
 use std::io::Write;
 
-// Where a run stands between two pages.
-#[derive(Clone, Copy)]
+// How many pages there are, and how they are told.
+#[derive(Clone, Copy, Debug, PartialEq, Eq)]
+pub struct Plan {
+    pub pages: u64,
+    pub format: Format,
+}
+
+impl Plan {
+    // Whether a row is printed for a page: with commas for each, and else for 24 of them at most.
+    fn has_row(self, page: u64) -> bool {
+        match self.format {
+            Format::Csv => true,
+            Format::Table => page.is_multiple_of(self.pages.div_ceil(24)),
+        }
+    }
+}
+
+// A run between two pages.
+#[derive(Debug, Drop)]
 pub struct Run<'a> {
     pub cache: Cache,
     pub seen: Seen,
-    pub source: Source<'a>,
-    pub chooser: Generator,
-}
-
-// How many pages there are, for how many of them a row is printed, and how.
-#[derive(Clone, Copy)]
-pub struct Plan {
-    pub pages: u64,
-    pub every: u64,
-    pub is_csv: bool,
-}
-
-// A page: loads its glyphs, then makes room by lottery with the words of its pool.
-fn turn<'a>(
-    store: &mut [u64],
-    book: &mut [u64],
-    pool: &[u64],
-    run: Run<'a>,
     source: Source<'a>,
-    limits: Limits,
-) -> Run<'a> {
-    let begun = run.cache;
-    let seen = run.seen;
-    let chooser = run.chooser;
-    let loaded = cache::load_page(store, book, begun, chooser, limits);
-    let full = loaded.cache;
-    let next = loaded.chooser;
-    let cache = cache::sweep(store, book, pool, full, limits);
-    Run {
-        cache,
-        seen: seen.page(loaded.is_shown),
-        source: source.used(minus(cache.words, full.words)),
-        chooser: next,
-    }
-}
-
-// The checks of a page.
-fn look<'a>(store: &[u64], book: &[u64], run: Run<'a>) -> Run<'a> {
-    let seen = run.seen;
-    let cache = run.cache;
-    let source = run.source;
-    let chooser = run.chooser;
-    Run {
-        cache,
-        seen: seen.checked(store, book, cache),
-        source,
-        chooser,
-    }
-}
-
-// A row where one is due.
-fn tell(
-    out: &mut impl Write,
-    store: &[u64],
-    before: Run<'_>,
-    after: Run<'_>,
-    page: u64,
-    plan: Plan,
-) -> io::Result<()> {
-    if plan.every == 0 {
-        return Ok(());
-    }
-    if page % plan.every == 0 {
-        let was = before.cache;
-        let cache = after.cache;
-        report::row(
-            out,
-            page,
-            was,
-            cache,
-            check::total(store, cache.count),
-            plan.is_csv,
-        )?;
-    }
-    Ok(())
-}
-
-// A page, its row and its checks. Where no words are left for it, the run is as it was, and its source is out.
-fn page<'a>(
-    out: &mut impl Write,
-    store: &mut [u64],
-    book: &mut [u64],
-    run: Run<'a>,
-    limits: Limits,
-    number: u64,
-    plan: Plan,
-) -> io::Result<Run<'a>> {
-    let mut pool = [0u64; source::PAGE_WORDS];
-    let source = run.source;
-    let lent = source.lend(&mut pool);
-    if lent.is_out {
-        return Ok(run.out());
-    }
-    let turned = turn(store, book, &pool, run, lent, limits);
-    tell(out, store, run, turned, number, plan)?;
-    Ok(look(store, book, turned))
+    chooser: Generator,
 }
 
 impl<'a> Run<'a> {
-    fn out(self) -> Run<'a> {
-        let cache = self.cache;
-        let chooser = self.chooser;
-        let source = self.source;
-        let seen = self.seen;
+    // Begins with an empty heap.
+    pub(crate) fn new(limits: Limits, source: Source<'a>) -> Run<'a> {
         Run {
-            cache,
-            seen: seen.words_ended(),
+            cache: Cache::new(limits),
+            seen: Seen::default(),
             source,
-            chooser,
+            chooser: Generator::new(521288629),
         }
     }
 
-    fn is_out(self) -> bool {
-        let seen = self.seen;
-        seen.is_out_of_words
-    }
-}
-
-// The pages of a run.
-pub(crate) fn pages<'a>(
-    out: &mut impl Write,
-    store: &mut [u64],
-    book: &mut [u64],
-    run: Run<'a>,
-    limits: Limits,
-    plan: Plan,
-) -> io::Result<Run<'a>> {
-    let mut now = run;
-    let mut done: u64 = 0;
-    let most = plan.pages;
-    while done < most {
-        done = done + 1;
-        now = page(out, store, book, now, limits, done, plan)?;
-        if now.is_out() {
-            return Ok(now);
+    // A page: loads its glyphs, then makes room by lottery with the words of its pool. Then its row, and its checks.
+    fn page(
+        &mut self,
+        out: &mut impl Write,
+        plan: Plan,
+        page: u64,
+        pool: &[u64],
+    ) -> io::Result<()> {
+        let before = self.cache.tally;
+        let is_shown = self.cache.load_page(&mut self.chooser);
+        self.cache.sweep(pool);
+        let done = self.cache.tally.since(before);
+        self.source.pass(done.words.0);
+        self.seen.page(page, is_shown);
+        if plan.has_row(page) {
+            report::row(out, plan.format, page, &self.cache, done)?;
         }
+        self.seen.checked(&self.cache);
+        Ok(())
     }
-    Ok(now)
+
+    // The pages of a run, as long as there are words for them.
+    pub(crate) fn pages(&mut self, out: &mut impl Write, plan: Plan) -> io::Result<()> {
+        for page in 1..=plan.pages {
+            let Some(pool) = self.source.lend() else {
+                self.seen.run_out();
+                return Ok(());
+            };
+            self.page(out, plan, page, &pool)?;
+        }
+        Ok(())
+    }
 }

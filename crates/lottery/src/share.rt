@@ -1,55 +1,77 @@
 // How often each class of weight is drawn, beside what its weight promises.
-//
-// The book has three rows for it, a cell for each class: the bytes held now, how often it was drawn, and the sum over
-// all draws of the class's share of the bytes then held, in parts of 1,048,576.
-use crate::book;
-use crate::glyph::class_of;
-use crate::sums::{cell, lower, raise};
+ghost use Rattle.std.specs.Prelude.{◌<◌};
 
-// How many classes there are: 0 bytes, and 2 KB, 4 KB, 8 KB, 16 KB and 32 KB up to twice that.
-pub const CLASSES: usize = 6;
+use std::num::Saturating;
 
-const DRAWN: usize = book::CLASSES + CLASSES;
+// How many classes there are.
+const CLASSES: usize = 6;
 
-const PROMISED: usize = DRAWN + CLASSES;
+// The smallest bitmap of each: 0 bytes, and 2 KB, 4 KB, 8 KB, 16 KB and 32 KB up to twice that.
+const LEAST: [u64; CLASSES] = [0, 2048, 4096, 8192, 16384, 32768];
 
 // What a draw counts for.
 pub const WHOLE: u64 = 1048576;
 
-pub(crate) fn give(book: &mut [u64], size: u64) {
-    raise(book, book::CLASSES + class_of(size), size);
-}
-
-pub(crate) fn free(book: &mut [u64], size: u64) {
-    lower(book, book::CLASSES + class_of(size), size);
+// The class of a bitmap of so many bytes.
+fn class_of(size: u64) -> usize
+    ensures { result < 6 }
+{
+    LEAST[1..].partition_point(|least| *least <= size)
 }
 
 // A part of a whole, in parts of 1,048,576.
 pub(crate) fn part(some: u64, all: u64) -> u64 {
-    if all == 0 {
-        return 0;
-    }
-    if 17592186044415 < some {
-        return 0;
-    }
-    some * WHOLE / all
+    let parts = some.checked_mul(WHOLE).unwrap_or(0);
+    parts.checked_div(all).unwrap_or(0)
 }
 
-// Counts a draw of a slot of this size while so many bytes are held.
-pub(crate) fn count(book: &mut [u64], size: u64, held: u64) {
-    raise(book, DRAWN + class_of(size), 1);
-    let mut class = 0;
-    while class < CLASSES {
-        let promised = part(cell(book, book::CLASSES + class), held);
-        raise(book, PROMISED + class, promised);
-        class = class + 1;
+// A class: its smallest bitmap, the bytes held now, how often it was drawn, and the sum over all draws of the class's
+// share of the bytes then held, in parts of 1,048,576.
+#[derive(Clone, Copy, Debug, Default, PartialEq, Eq)]
+pub struct Class {
+    pub least: u64,
+    held: Saturating<u64>,
+    pub drawn: Saturating<u64>,
+    pub promised: Saturating<u64>,
+}
+
+#[derive(Clone, Copy, Debug, PartialEq, Eq)]
+pub struct Shares {
+    pub classes: [Class; CLASSES],
+}
+
+impl Class {
+    // A class whose smallest bitmap has so many bytes. Nothing of it is held or was drawn.
+    fn new(least: u64) -> Class {
+        Class {
+            least,
+            ..Class::default()
+        }
     }
 }
 
-pub(crate) fn drawn(book: &[u64], class: usize) -> u64 {
-    cell(book, DRAWN + class % CLASSES)
+impl Default for Shares {
+    fn default() -> Shares {
+        Shares {
+            classes: LEAST.map(Class::new),
+        }
+    }
 }
 
-pub(crate) fn promised(book: &[u64], class: usize) -> u64 {
-    cell(book, PROMISED + class % CLASSES)
+impl Shares {
+    pub(crate) fn give(&mut self, size: u64) {
+        self.classes[class_of(size)].held += size;
+    }
+
+    pub(crate) fn free(&mut self, size: u64) {
+        self.classes[class_of(size)].held -= size;
+    }
+
+    // Counts a draw of a slot of this size while so many bytes are held.
+    pub(crate) fn count(&mut self, size: u64, held: u64) {
+        self.classes[class_of(size)].drawn += 1;
+        for class in self.classes.iter_mut() {
+            class.promised += part(class.held.0, held);
+        }
+    }
 }

@@ -5,13 +5,13 @@ use std::os::unix::fs::FileExt;
 // The words that a page's draws are lent.
 pub const PAGE_WORDS: usize = 64;
 
-const PAGE_BYTES: usize = 512;
+const PAGE_BYTES: usize = 8 * PAGE_WORDS;
 
 // A generator: a shift register, and a counter that is added to what it gives.
-#[derive(Clone, Copy)]
+#[derive(Clone, Copy, Debug, PartialEq, Eq)]
 pub struct Generator {
-    pub register: u64,
-    pub counter: u64,
+    register: u64,
+    counter: u64,
 }
 
 // One turn of the register. It is never 0 unless it was.
@@ -29,78 +29,60 @@ impl Generator {
         }
     }
 
-    pub(crate) fn next(self) -> Generator {
-        Generator {
-            register: shifted(self.register),
-            counter: std::num::wrapping_add_u64(self.counter, 11400714819323198485),
-        }
-    }
-
-    pub(crate) fn word(self) -> u64 {
-        std::num::wrapping_add_u64(self.register, self.counter)
+    pub(crate) fn next_word(&mut self) -> u64 {
+        self.register = shifted(self.register);
+        self.counter = self.counter.wrapping_add(11400714819323198485);
+        self.register.wrapping_add(self.counter)
     }
 }
 
-// Where the words come from: a file, from the place of a word on, or the generator.
-#[derive(Clone, Copy)]
-pub struct Source<'a> {
-    pub file: Option<&'a File>,
-    pub place: u64,
-    pub is_out: bool,
-    pub generator: Generator,
+// Where the words come from: the generator, or a file, from the place of a word on.
+#[derive(Clone, Copy, Debug)]
+pub enum Source<'a> {
+    Generated(Generator),
+    Read { file: &'a File, place: u64 },
 }
 
-// Fills the pool from the generator.
-fn generated(pool: &mut [u64], generator: Generator) -> Generator {
-    let mut now = generator;
-    let mut i = 0;
-    while i < pool.len() {
-        now = now.next();
-        pool[i] = now.word();
-        i = i + 1;
-    }
-    now
+// A page's words from the generator.
+fn generated(generator: &mut Generator) -> [u64; PAGE_WORDS] {
+    let mut pool = [0; PAGE_WORDS];
+    pool.fill_with(|| generator.next_word());
+    pool
 }
 
-// Fills the pool from a file, and says whether that had enough words.
-fn copied(pool: &mut [u64], file: &File, place: u64) -> bool {
-    let mut bytes = [0u8; PAGE_BYTES];
-    if 1152921504606846975 <= place {
-        return false;
+// A page's words from a place in a file, where there are enough.
+fn read(file: &File, place: u64) -> Option<[u64; PAGE_WORDS]> {
+    let mut bytes = [0; PAGE_BYTES];
+    let offset = place.checked_mul(8)?;
+    if file.read_at(&mut bytes, offset).ok()? < PAGE_BYTES {
+        return None;
     }
-    let got = match file.read_at(&mut bytes, place * 8) {
-        Ok(got) => got,
-        Err(_) => 0,
-    };
-    big_endian::numbers(pool, &bytes, 8);
-    got == PAGE_BYTES
+    let mut pool = [0; PAGE_WORDS];
+    big_endian::numbers(&mut pool, &bytes, 8);
+    Some(pool)
 }
 
 impl<'a> Source<'a> {
-    pub(crate) fn new(file: Option<&'a File>) -> Source<'a> {
-        Source {
-            file,
-            place: 0,
-            is_out: false,
-            generator: Generator::new(2463534242),
+    pub(crate) fn from_generator() -> Source<'a> {
+        Source::Generated(Generator::new(2463534242))
+    }
+
+    pub(crate) fn from_file(file: &'a File) -> Source<'a> {
+        Source::Read { file, place: 0 }
+    }
+
+    // Lends a page its words. A file may have fewer left.
+    pub(crate) fn lend(&mut self) -> Option<[u64; PAGE_WORDS]> {
+        match self {
+            Source::Generated(generator) => Some(generated(generator)),
+            Source::Read { file, place } => read(file, *place),
         }
     }
 
-    // Lends a page its words. A file that has fewer left is out.
-    pub(crate) fn lend(mut self, pool: &mut [u64]) -> Source<'a> {
-        if let Some(file) = self.file {
-            self.is_out = !copied(pool, file, self.place);
-            return self;
+    // Passes so many of the words that were lent: a file lends the others again, the generator lends new ones.
+    pub(crate) fn pass(&mut self, words: u64) {
+        if let Source::Read { place, .. } = self {
+            *place = place.saturating_add(words);
         }
-        let generator = self.generator;
-        let after = generated(pool, generator);
-        self.generator = after;
-        self
-    }
-
-    // After so many of the words that were lent are used.
-    pub(crate) fn used(mut self, words: u64) -> Source<'a> {
-        self.place = crate::sums::plus(self.place, words);
-        self
     }
 }

@@ -1,6 +1,0 @@
--- `text::same` ends: the index rises to the end of the first text.
-use Rattle.std.proofs.Common.{length, ◌-◌}
-use Rattle.lottery.proofs.text.same.Given as goal
-
-abbrev pub decreases-loop-i : goal.decreases-loop-i
-decreases-loop-i l = length l.a - l.i
