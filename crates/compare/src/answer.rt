@@ -25,7 +25,7 @@ impl Answer {
         }
     }
 
-    pub fn agrees(&self, expected: &[u64]) -> bool {
+    pub(crate) fn agrees(&self, expected: &[u64]) -> bool {
         &self.numbers[..self.count] == expected
     }
 }

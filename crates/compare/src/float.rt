@@ -7,7 +7,7 @@ use ziggurat::RoundNumbers;
 // The longest table that is copied.
 const MOST_FLOATS: usize = 512;
 
-pub fn setup(record: &Record) -> SetupNumbers {
+pub(crate) fn setup(record: &Record) -> SetupNumbers {
     binomial::new(record.number(0), words::float_of(record.number(1))).into()
 }
 
@@ -24,7 +24,7 @@ fn method(record: &Record) -> Method {
     })
 }
 
-pub fn draw(record: &Record) -> Numbers {
+pub(crate) fn draw(record: &Record) -> Numbers {
     binomial::draw(method(record), record.lent[0]).into()
 }
 
@@ -38,7 +38,7 @@ fn floats<'a>(room: &'a mut [f64; MOST_FLOATS], numbers: &[u64]) -> Option<&'a [
 }
 
 // None where a record's tables are too long.
-pub fn round(record: &Record) -> Option<RoundNumbers> {
+pub(crate) fn round(record: &Record) -> Option<RoundNumbers> {
     let [edges, densities, pool, _] = record.lent;
     let mut x = [0.0; MOST_FLOATS];
     let mut f = [0.0; MOST_FLOATS];

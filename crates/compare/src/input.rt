@@ -16,7 +16,7 @@ pub struct Input<R> {
 }
 
 impl<R: BufRead> Input<R> {
-    pub fn new(stream: R) -> Self {
+    pub(crate) fn new(stream: R) -> Self {
         Input {
             stream,
             bytes: [0; MOST_BYTES],
@@ -25,7 +25,7 @@ impl<R: BufRead> Input<R> {
     }
 
     // The words of the next record, or none at the end of the stream.
-    pub fn next_record(&mut self) -> Result<Option<&[u64]>, Stop<'_>> {
+    pub(crate) fn next_record(&mut self) -> Result<Option<&[u64]>, Stop<'_>> {
         let Input {
             stream,
             bytes,

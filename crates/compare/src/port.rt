@@ -16,7 +16,7 @@ pub struct Room {
 }
 
 impl Room {
-    pub fn new() -> Self {
+    pub(crate) fn new() -> Self {
         Room {
             cells: [0; MOST_CELLS],
             links: [0; MOST_CELLS],
@@ -81,7 +81,7 @@ fn cells_agree(record: &Record, cells: &[u64], links: &[u32]) -> bool {
 }
 
 // Runs the call of a record over copies of what it may change.
-pub fn compare<'a>(record: &Record<'a>, room: &mut Room) -> Result<(), Stop<'a>> {
+pub(crate) fn compare<'a>(record: &Record<'a>, room: &mut Room) -> Result<(), Stop<'a>> {
     let (cells, links) = room
         .copies(record.changed(), record.linked())
         .ok_or(Stop::Malformed)?;

@@ -22,7 +22,7 @@ fn take_list<'a>(words: &mut &'a [u64]) -> Option<&'a [u64]> {
 
 impl<'a> Record<'a> {
     // None where the call is unknown, a list is not all there, or more follows the last.
-    pub fn parse(words: &'a [u64]) -> Option<Record<'a>> {
+    pub(crate) fn parse(words: &'a [u64]) -> Option<Record<'a>> {
         let [call, _origin, lists @ ..] = words else {
             return None;
         };
@@ -48,12 +48,12 @@ impl<'a> Record<'a> {
     }
 
     // A number handed in, and 0 where the record has none.
-    pub fn number(&self, which: usize) -> u64 {
+    pub(crate) fn number(&self, which: usize) -> u64 {
         self.numbers.get(which).copied().unwrap_or(0)
     }
 
     // The lent list that the call may change, and an empty one where it changes none.
-    pub fn changed(&self) -> &'a [u64] {
+    pub(crate) fn changed(&self) -> &'a [u64] {
         let [first, second, third, fourth] = self.lent;
         match self.call {
             Call::New | Call::Pop | Call::Push | Call::Update => first,
@@ -65,7 +65,7 @@ impl<'a> Record<'a> {
     }
 
     // The lent list that has the links of a table, and an empty one where a call has none.
-    pub fn linked(&self) -> &'a [u64] {
+    pub(crate) fn linked(&self) -> &'a [u64] {
         let [_, second, third, _] = self.lent;
         match self.call {
             Call::AliasDraw | Call::AliasWeights => second,

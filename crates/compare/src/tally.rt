@@ -11,12 +11,12 @@ pub struct Tally {
 
 impl Tally {
     // One record more of a call.
-    pub fn count(&mut self, call: Call) {
+    pub(crate) fn count(&mut self, call: Call) {
         self.agree[call as usize] += 1;
     }
 
     // The replay ends before its stream does.
-    pub fn stop(&mut self) {
+    pub(crate) fn stop(&mut self) {
         self.is_stopped = true;
     }
 }

@@ -50,7 +50,8 @@ checks ws odds links work S t o l w =
     rw (none.0, none.1.0, o, l, w, eq-eqb (length ws) (length ws) refl, none.1.1.1.0, none.1.1.1.1.0)
 
 -- (a) for weights that the builder doesn't refuse and a table of their length, yes means that each index is drawn as often as its weight says
-pub check_means : {ws odds links work after : List ℕ} {S : ℕ} {r : Result Bool Refusal} → Takes ws S → length odds ≡ length ws → length links ≡ length ws → length work ≡ length ws → check.Promise ws odds links work r after → (r ≡ Ok true) ↔ DrawsEach ws S odds links
+pub check_means : {ws odds links work after : List ℕ} {S : ℕ} {r : Result Bool Refusal} → Takes ws S → length odds ≡ length ws → length links ≡ length ws
+    → length work ≡ length ws → check.Promise ws odds links work r after → (r ≡ Ok true) ↔ DrawsEach ws S odds links
 check_means {ws} {odds} {links} {work} {after} {S} {r} t o l w p = (λ e. yes_draws e, λ d. draws_yes d)
   where
     judges : tells r ≡ gave (fair ws odds links)

@@ -49,7 +49,8 @@ unfolding weight_sum.rule
 weight_sum_table {ws} {r} p =
     rows_given _ _ (weight_sum.refusals ws) (WeightSumRows ws) p.answer (refl, says_heavy ws, (refl, says_is (sum_of ws) 0, tt))
 
-pub new_table : {ws odds links odds_after links_after : List ℕ} {r : Result ℕ Refusal} → new.Promise ws odds links r odds_after links_after → RefusedBy {B = List ℕ × List ℕ} (AliasNewRows ws (length odds) (length links)) (tells r) (odds, links) (odds_after, links_after)
+pub new_table : {ws odds links odds_after links_after : List ℕ} {r : Result ℕ Refusal} → new.Promise ws odds links r odds_after links_after
+    → RefusedBy {B = List ℕ × List ℕ} (AliasNewRows ws (length odds) (length links)) (tells r) (odds, links) (odds_after, links_after)
 unfolding new.rule
 new_table {ws} {odds} {links} {odds_after} {links_after} {r} p =
     record {

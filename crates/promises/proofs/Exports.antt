@@ -195,7 +195,8 @@ module _ {s : Store} where
     tree_is_sound_table p = given_cells (CountRows s n) p (λ a. tree_table.is_sound_table)
 
 -- ---- the alias table
-pub alias_new_table : {ws odds links cells odds_after links_after : List ℕ} → alias.New ws odds links cells odds_after links_after → Refuses {B = List ℕ × List ℕ} (AliasNewRows ws (length odds) (length links)) cells (odds, links) (odds_after, links_after)
+pub alias_new_table : {ws odds links cells odds_after links_after : List ℕ} → alias.New ws odds links cells odds_after links_after
+    → Refuses {B = List ℕ × List ℕ} (AliasNewRows ws (length odds) (length links)) cells (odds, links) (odds_after, links_after)
 alias_new_table p = refused_cells _ p (λ a. alias_table.new_table)
 
 pub alias_draw_table : {odds links pool cells : List ℕ} {S : ℕ} → alias.Draw odds links S pool cells → Refuses (AliasDrawRows odds links S pool) cells 0 (get_or cells 2 0)

@@ -82,7 +82,8 @@ module _ (symmetric : Bool) (X F : List Float) (pool : List ℕ) where
   Few = (length pool ≡ 0) ⊎ ((length pool ≡ 1) × InWedge symmetric X (get_or pool 0 0))
 
   -- by whether x is inside, and whether the layer is layer 0
-  few : (in_layer base : Bool) → inside symmetric x (get_or X (layer w + 1) nan) ≡ in_layer → eqb (layer w) 0 ≡ base → (height : Float) → Says (ltb (length pool) (words_of (cond in_layer (Sample x) (cond base (Tail (u_of symmetric w)) (Wedge x height))))) Few
+  few : (in_layer base : Bool) → inside symmetric x (get_or X (layer w + 1) nan) ≡ in_layer → eqb (layer w) 0 ≡ base → (height : Float)
+      → Says (ltb (length pool) (words_of (cond in_layer (Sample x) (cond base (Tail (u_of symmetric w)) (Wedge x height))))) Few
   few true base e q height = says_as (says_less (length pool) 1) (λ h. grind arith) (λ h. grind (arith, e))
   few false true e q height = says_as (says_less (length pool) 1) (λ h. grind arith) (λ h. grind (arith, eqb-true _ _ q))
   few false false e q height = says_as (says_less (length pool) 2) (λ h. grind (arith, e, eqb-false _ _ q)) (λ h. grind arith)

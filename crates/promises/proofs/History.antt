@@ -78,7 +78,8 @@ module _ (t : State) (h : HoldsNow t) where
   miscounted e = clash _ e h.good
 
   -- a call that reads leaves the store as it was
-  reads : {A : Type 0} (c : Call) (rs : List (ℕ × Bool)) (v : A) (t' : State) (k : ℕ) (o : Outcome A) → given c t.weights ≡ t.weights → o ≡ in_order rs (gave v) → t'.store ≡ s → After c o (λ x. n) t k t' → once 7 rs ≡ true → (Exactly 7 rs → ⊥) → once 13 rs ≡ true → (Exactly 13 rs → ⊥) → Kept t' k
+  reads : {A : Type 0} (c : Call) (rs : List (ℕ × Bool)) (v : A) (t' : State) (k : ℕ) (o : Outcome A) → given c t.weights ≡ t.weights → o ≡ in_order rs (gave v) → t'.store ≡ s
+      → After c o (λ x. n) t k t' → once 7 rs ≡ true → (Exactly 7 rs → ⊥) → once 13 rs ≡ true → (Exactly 13 rs → ⊥) → Kept t' k
   reads c rs v t' k o same p q a =
       kept c rs v (λ x. n) s t t' k o p a (q ∙ sym (leaves_same (in_order rs (gave v)) s)) (λ none. rw same h) h
 

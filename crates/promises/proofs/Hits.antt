@@ -60,7 +60,8 @@ set_change s x rise fall i h q = grind (arith, common_steps)
 abbrev pub Enough : ℕ → ℕ → ℕ → Type 0
 Enough rise fall x = fall ≤ x + rise
 
-pub cell_change : (s : Store) (rise fall : ℕ) {j : ℕ} → Climb j → j ≤ length s → Each (Enough rise fall) s (parents j) → (i : ℕ) → get_or (change_all s rise fall (parents j)) i 0 + on_path fall (parents j) i ≡ get_or s i 0 + on_path rise (parents j) i
+pub cell_change : (s : Store) (rise fall : ℕ) {j : ℕ} → Climb j → j ≤ length s → Each (Enough rise fall) s (parents j) → (i : ℕ)
+    → get_or (change_all s rise fall (parents j)) i 0 + on_path fall (parents j) i ≡ get_or s i 0 + on_path rise (parents j) i
 unfolding change_all on_path Each
 cell_change s rise fall top h q i = rw (parents_top 0 (omega arith)) refl
 cell_change s rise fall (up j way) h q i =

@@ -82,6 +82,7 @@ rows_order {A} v k ((i, false) ∷ tests) ((j, Case) ∷ rows) (same, says, s) =
 pub rows_given : {A : Type 0} (o : Outcome A) (v : A) (tests : List (ℕ × Bool)) (rows : Table) → o ≡ in_order tests (gave v) → Same tests rows → GivenBy rows o
 rows_given o v tests rows p s k = (λ e. (rows_order v k tests rows s).0 (sym p ∙ e), λ h. p ∙ (rows_order v k tests rows s).1 h)
 
-pub rows_kept : {A B : Type 0} (o : Outcome A) (v : A) (tests : List (ℕ × Bool)) (rows : Table) (changed found after : B) → o ≡ in_order tests (gave v) → after ≡ leaves (in_order tests (gave v)) changed found → Same tests rows → RefusedBy rows o found after
+pub rows_kept : {A B : Type 0} (o : Outcome A) (v : A) (tests : List (ℕ × Bool)) (rows : Table) (changed found after : B) → o ≡ in_order tests (gave v)
+    → after ≡ leaves (in_order tests (gave v)) changed found → Same tests rows → RefusedBy rows o found after
 rows_kept o v tests rows changed found after p q s =
     record { given = rows_given o v tests rows p s; kept = λ k e. q ∙ (rw (sym p ∙ e)) }

@@ -59,7 +59,8 @@ by_ends ((j, true) ∷ rs) v P f h = h j
 by_ends ((j, false) ∷ rs) v P f h = by_ends rs v P (λ none. f (refl, none)) h
 
 -- what a call leaves is sound: where it is refused as it was, else by what it changes
-keeps : {A : Type 0} (rs : List (ℕ × Bool)) (v : A) (counted : A → ℕ) (o : Outcome A) (s changed after : Store) (n : ℕ) → o ≡ in_order rs (gave v) → after ≡ leaves (in_order rs (gave v)) changed s → (None rs → Sound changed (counted v)) → Sound s n → Sound after (count_left counted o n)
+keeps : {A : Type 0} (rs : List (ℕ × Bool)) (v : A) (counted : A → ℕ) (o : Outcome A) (s changed after : Store) (n : ℕ) → o ≡ in_order rs (gave v) → after ≡ leaves (in_order rs (gave v)) changed s
+    → (None rs → Sound changed (counted v)) → Sound s n → Sound after (count_left counted o n)
 keeps rs v counted o s changed after n p q f h = rw (p, q) (by_ends rs v (λ o. Sound (leaves o changed s) (count_left counted o n)) f (λ k. h))
 
 -- making over any store contents gives a sound store
