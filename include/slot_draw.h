@@ -2,7 +2,7 @@
  * pool, and every call takes any numbers, any floats and memory of any content. What it can't do it refuses.
  *
  * Link target/staticlib/libslot_draw.a, which `sh tools/archive` writes: x86-64 Linux, System V calls. It needs the
- * C library's memset and memmove, and nothing else. The functions are proved; this header is tested against them. docs/RULES.md says
+ * C library's memset and nothing else. The functions are proved; this header is tested against them. docs/RULES.md says
  * what each answers and leaves; the two lines above each function are its rule in short.
  *
  * What the caller owes, and nothing else is asked:

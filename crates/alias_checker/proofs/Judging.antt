@@ -1,7 +1,7 @@
 -- The judgement of a table, and the weights that it shows, from what the parts answered. The cells of a table whose slots could all lend hold the
 -- pairs that draw each index; one where some could not is not fair, since a fair one draws indexes alone and n times each weight is a u64.
 -- Assumes nothing.
-use Prim.Native.Nat.{ℕ, ◌+◌, ◌*◌, ◌/◌, ◌<◌, min}
+use Prim.Native.Nat.{ℕ, ◌+◌, ◌*◌, ◌/◌, ◌<◌, ◌^◌, min}
 use native.Mathlib.Omega.{arith}
 use mathlib.Core.Bool.{Bool, true, false, not}
 use mathlib.Core.Path.{◌≡◌, refl, sym, ap, ◌∙◌}
@@ -22,6 +22,10 @@ use Rattle.std.specs.Prelude.{Ok, Err}
 use Rattle.refusal.specs.declared.Refusal.TheVariants.{Damaged}
 use Rattle.alias_checker.specs.Weights.{share, damaged, shown, Restored}
 use Rattle.alias_checker.proofs.Pairs.{pairs_closed, fair_counts, fair_draws}
+
+-- ---- the odds capped by the largest u64 are the odds
+pub capped_all : (odds : List ℕ) → ((i : ℕ) → get_or odds i 0 < 2 ^ 64) → list_below (length odds) (λ i. min (get_or odds i 0) 18446744073709551615) ≡ odds
+capped_all odds fits = sym (list_below_lem (length odds) (λ i. min (get_or odds i 0) 18446744073709551615) odds refl (λ i l. omega (arith, fits i)))
 
 -- ---- the judgement
 -- no slot of a fair table strays

@@ -11,14 +11,14 @@ ghost use Rattle.alias_checker.specs.Weights as weights;
 
 use refusal::Refusal;
 
-// Writes the smaller of each of the odds and a limit.
+// Writes the smaller of each of the odds and a limit: for the largest u64 the odds themselves.
 fn cap(odds: &[u64], limit: u64, cells: &mut [u64])
     requires { length cells.old ≡ length odds.now }
-    ensures { cells.new ≡ list_below (length odds.now) (λ i. min (get_or odds.now i 0) limit) }
+    ensures capped { cells.new ≡ list_below (length odds.now) (λ i. min (get_or odds.now i 0) limit) }
+    ensures uncapped { limit ≡ 18446744073709551615 → cells.new ≡ odds.now }
 {
-    cells.copy_from_slice(odds);
-    for cell in cells.iter_mut() {
-        *cell = (*cell).min(limit);
+    for (i, own) in odds.iter().enumerate() {
+        cells[i] = (*own).min(limit);
     }
 }
 
@@ -89,7 +89,7 @@ impl<'a> Table<'a> {
         requires { (length output.old ≡ length self.now.odds.now) × (0 < length self.now.odds.now) }
         ensures { weights.Restored self.now.odds.now self.now.links.now self.now.sum result output.new }
     {
-        output.copy_from_slice(self.odds);
+        cap(self.odds, u64::MAX, output);
         if self.lend(output).is_some() {
             divide(output);
             return Ok(());

@@ -1,5 +1,5 @@
 -- Weights that are not too heavy for their number: n times each of them, and their sum, are u64, since n times the largest number allowed is one.
--- And n times each weight. Assumes nothing.
+-- And n times each weight, written cell by cell. Assumes nothing.
 use Prim.Native.Nat.{ℕ, zero, suc, ◌+◌, ◌*◌, ◌/◌, ◌<◌, ◌≤◌, ◌^◌}
 use native.Mathlib.Omega.{arith}
 use native.Mathlib.Nat.{mul-le-mul_right, mul-div-le, suc-mul, zero-mul, mul-zero, mul_comm}
@@ -14,7 +14,7 @@ use Rattle.std.proofs.lemmas.List.{length-map}
 use Rattle.counting.specs.Sum.{sum_of}
 use Rattle.counting.specs.Below.{list_below}
 use Rattle.counting.proofs.Sums.{sum_zero, sum_suc, sum_all}
-use Rattle.counting.proofs.Below.{Next, earlier, latest, next, some_true, some_false, some_none, list_below_lem}
+use Rattle.counting.proofs.Below.{Next, earlier, latest, next, some_true, some_false, some_none, list_below_lem, Filled, filled_all}
 use Rattle.refusal.specs.Outcome.{refused, gave}
 use Rattle.weighted_alias.specs.Tests.{too_heavy}
 use Rattle.weighted_alias.specs.WeightSum.{rule}
@@ -100,3 +100,7 @@ scaled_at ws i = ap (λ (d : ℕ). get_or (map (λ w. length ws * w) ws) i d) (s
 
 pub scaled_is : (ws : List ℕ) → scaled ws ≡ list_below (length ws) (λ i. length ws * get_or ws i 0)
 scaled_is ws = list_below_lem (length ws) (λ i. length ws * get_or ws i 0) (scaled ws) (scaled_long ws) (λ i h. scaled_at ws i)
+
+pub scaled_all : (ws begun odds : List ℕ) (i : ℕ) → length begun ≡ length ws → Filled (λ k. length ws * get_or ws k 0) begun odds i → length ws ≤ i → odds ≡ scaled ws
+scaled_all ws begun odds i long d h =
+    filled_all (λ k. length ws * get_or ws k 0) begun odds i d (omega arith) ∙ rw long (sym (scaled_is ws))

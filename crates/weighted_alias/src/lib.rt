@@ -63,9 +63,8 @@ fn scale(weights: &[u64], odds: &mut [u64])
     ensures { odds.new ≡ new.scaled weights.now }
 {
     let n = weights.len() as u64;
-    odds.copy_from_slice(weights);
-    for odd in odds.iter_mut() {
-        *odd *= n;
+    for (i, weight) in weights.iter().enumerate() {
+        odds[i] = n * *weight;
     }
 }
 

@@ -8,7 +8,7 @@ mod path;
 mod step;
 mod tree;
 
-ghost use Rattle.std.specs.Prelude.{◌≡◌, ◌<◌, ◌≤◌, ◌-◌, ◌^◌, length, take};
+ghost use Rattle.std.specs.Prelude.{◌≡◌, ◌<◌, ◌≤◌, ◌-◌, ◌^◌, ◌++◌, length, take, drop};
 ghost use Rattle.counting.specs.Sum.{sum_of};
 ghost use Rattle.refusal.specs.Answers.{tells};
 ghost use Rattle.weighted_tree.specs.New as new;
@@ -24,6 +24,16 @@ ghost use Rattle.weighted_tree.specs.IsSound as is_sound;
 use path::{change_parents, change_path};
 use refusal::{Drawing, Refusal};
 use tree::Tree;
+
+// Copies the weights to the front of the store. The library's copy would have the archive ask for C's memmove.
+fn copy_in(store: &mut [u64], weights: &[u64])
+    requires { length weights.now ≤ length store.old }
+    ensures { store.new ≡ weights.now ++ drop (length weights.now) store.old }
+{
+    for (i, weight) in weights.iter().enumerate() {
+        store[i] = *weight;
+    }
+}
 
 // Adds each of the first cells to its parent, from the last down to cell 1.
 fn gather(store: &mut [u64], count: usize)
@@ -42,7 +52,7 @@ pub fn new(store: &mut [u64], weights: &[u64]) -> Result<usize, Refusal>
     let count = weights.len();
     Tree::of(store, count).map_err(|_| Refusal::Full)?;
     counting::sum(weights).ok_or(Refusal::Overflow)?;
-    store[..count].copy_from_slice(weights);
+    copy_in(store, weights);
     gather(store, count);
     Ok(count)
 }

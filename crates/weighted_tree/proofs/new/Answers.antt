@@ -1,7 +1,6 @@
 -- Each refusal follows from the tests passed before and the one that failed; the weights are copied to the front of the store, where their sum
 -- is a u64, and gathered.
 use Rattle.std.proofs.Common.{◌≡◌, true, false, ◌<◌, ◌-◌, ◌^◌, ◌++◌, length, drop, length-append, arith, rules, sym, refl, ap, ◌∙◌}
-use Rattle.std.proofs.Math.Seq.{take-append_seam}
 use Rattle.std.specs.Prelude.{Some, None}
 use Rattle.counting.specs.Sum.{sum_of, exceeds_u64}
 use Rattle.counting.proofs.Sums.{exceeds_means, sum_means, fits_u64}
@@ -9,6 +8,7 @@ use Rattle.refusal.specs.declared.Refusal.TheVariants.{Full, Overflow}
 use Rattle.weighted_tree.specs.New as new
 use Rattle.weighted_tree.specs.Tests.{bad_count}
 use Rattle.weighted_tree.proofs.Cells.{good_count}
+use Rattle.weighted_tree.proofs.Gathers.{copied}
 use Rattle.weighted_tree.proofs.Promised.{call_refused, call_done, new_says}
 use Rattle.weighted_tree.proofs.new.Goals as goal
 use Rattle.weighted_tree.proofs.new.Goals.{In_ok-map_err, In_ok-ok_or}
@@ -37,12 +37,11 @@ gather-requires c =
     let at = goal.at.gather-requires c in
     let room = good_count _ _ (good at.In_ok-map_err) in
     let sum : sum_of c.args.weights.now < 2 ^ 64 = fits_u64 _ (fits at.In_ok-ok_or) in
-    rw c.copy_from_slice.ensures.after (simp length-append (omega arith), rw take-append_seam sum)
+    (rw c.copy_in.ensures (simp length-append (omega arith)), copied _ _ _ c.copy_in.ensures sum)
 
 pub returns : goal.returns
 unfolding new.changed
 returns c =
     let at = goal.at.returns c in
-    let copied = ap (λ front. front ++ drop (length c.args.weights.now) c.args.store.now) c.copy_from_slice.ensures.after in
-    let gathered = c.gather.ensures ∙ ap (new.gathered (length c.args.weights.now - 1)) copied in
+    let gathered = c.gather.ensures ∙ ap (new.gathered (length c.args.weights.now - 1)) c.copy_in.ensures in
     call_done (new_says _ _) (good at.In_ok-map_err, (fits at.In_ok-ok_or, tt)) _ _ refl gathered
