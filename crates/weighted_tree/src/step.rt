@@ -24,9 +24,12 @@ pub(crate) fn step_from(subtotal: u64, left: u64, right: u64, target: u64) -> Op
     if !covers(subtotal, left, right) {
         return None;
     }
-    Some(match target.checked_sub(left) {
-        None => Step::Left,
-        Some(rest) if rest < right => Step::Right(rest),
-        Some(_) => Step::Here,
-    })
+    if target < left {
+        return Some(Step::Left);
+    }
+    let rest = target - left;
+    if rest < right {
+        return Some(Step::Right(rest));
+    }
+    Some(Step::Here)
 }
