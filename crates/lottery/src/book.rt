@@ -2,7 +2,7 @@
 use crate::glyph::{GLYPHS, Glyph, IN_FLASH};
 use crate::tree::SLOTS;
 
-#[derive(Debug, Drop)]
+#[derive(Clone, Copy, Debug)]
 pub struct Book {
     glyphs: [Glyph; SLOTS],
     is_held: [bool; GLYPHS],

@@ -53,7 +53,7 @@ impl Tally {
     }
 }
 
-#[derive(Debug, Drop)]
+#[derive(Clone, Copy, Debug)]
 pub struct Cache {
     pub limits: Limits,
     pub tree: Tree,

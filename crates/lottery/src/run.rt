@@ -25,7 +25,7 @@ impl Plan {
 }
 
 // A run between two pages.
-#[derive(Debug, Drop)]
+#[derive(Clone, Copy, Debug)]
 pub struct Run<'a> {
     pub cache: Cache,
     pub seen: Seen,

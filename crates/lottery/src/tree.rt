@@ -12,7 +12,7 @@ pub enum Build {
     Old,
 }
 
-#[derive(Debug, Drop)]
+#[derive(Clone, Copy, Debug)]
 pub struct Tree {
     cells: [u64; SLOTS],
     count: usize,

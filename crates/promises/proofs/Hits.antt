@@ -30,6 +30,11 @@ unfoldable pub on_path : ℕ → List ℕ → ℕ → ℕ
 on_path v [] i = 0
 on_path v (x ∷ path) i = hit v x i + on_path v path i
 
+pub on_path_zero : (path : List ℕ) (i : ℕ) → on_path 0 path i ≡ 0
+unfolding on_path
+on_path_zero [] i = refl
+on_path_zero (x ∷ path) i = omega (arith, on_path_zero path i, hit_le 0 x i 0 (λ e. omega arith))
+
 -- the way up from j comes to i's parents by one of i's children
 pub on_path_children : (v : ℕ) {j : ℕ} → Climb j → (i : ℕ) → on_path v (path_of j) (2 * i + 1) + on_path v (path_of j) (2 * i + 2) ≡ on_path v (parents j) i
 unfolding on_path hit
