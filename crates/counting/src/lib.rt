@@ -8,8 +8,8 @@ pub fn sum(numbers: &[u64]) -> Option<u64>
     ensures { result ≡ summed (sum_of numbers.now) }
 {
     let mut sum: u64 = 0;
-    for number in numbers {
-        sum = sum.checked_add(*number)?;
+    for i in 0..numbers.len() {
+        sum = sum.checked_add(numbers[i])?;
     }
     Some(sum)
 }

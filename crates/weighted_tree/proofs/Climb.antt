@@ -150,6 +150,13 @@ module _ (rise fall cell : ℕ) (before s : Store) (i : ℕ) (w : Changing rise 
           same = rw e at same;
         }
 
+    -- with cell 0 all is changed
+    pub change_last : x < 1 → set s x (get_or s x 0 + rise - fall) ≡ change_all before rise fall (parents cell)
+    unfolding change_all
+    change_last h =
+        let up = climbs i x j e in
+        let same = change_more.same in sym (rw (up.2 ∙ parents_top x (omega arith)) at same)
+
 -- ---- along sound parents the cells only grow
 pub parity : (i : ℕ) → (i ≡ 2 * (i / 2)) ⊎ (i ≡ 2 * (i / 2) + 1)
 parity i = go (i - 2 * (i / 2)) (omega arith) (omega arith)

@@ -158,14 +158,15 @@ module _ (s : Store) (n : ℕ) (pool : List ℕ) where
   drawn_refused r o x = sym ((refuses (draw.refusals s n pool) (last_of 0 (draw.draw_path s n pool), place (total s n) pool) (number r) o).1 x)
 
   module _ (good : bad_count s n ≡ false) (T : ℕ) (is : T ≡ total s n) (some : T ≡ 0 → ⊥) where
-    pub drawn_nothing : (r : Refusal) → below.Promise pool T (Err r) → tells {A = ℕ × ℕ} (Err r) ≡ draw.drawn s n pool
+    -- the target's one refusal is the draw's
+    pub drawn_nothing : (r : Refusal) → below.Promise pool T (Err r) → (number r ≡ 12) × (tells {A = ℕ × ℕ} (Err r) ≡ draw.drawn s n pool)
     unfolding below.rule draw.drawn
     drawn_nothing r p = rw (good, ← is, ne_eqb T 0 some) (go _ (eqb (place T pool) 0) refl p.answer)
       where
         go : (o : Outcome (ℕ × ℕ)) (b : Bool) → eqb (place T pool) 0 ≡ b
             → ◌≡◌ {A = Outcome (ℕ × ℕ)} (refused (number r)) (cond b (refused 12) (gave (target T pool, place T pool)))
-            → ◌≡◌ {A = Outcome (ℕ × ℕ)} (refused (number r)) (cond (eqb (place T pool) 0) (refused 12) o)
-        go o true e q = rw e q
+            → (number r ≡ 12) × ◌≡◌ {A = Outcome (ℕ × ℕ)} (refused (number r)) (cond (eqb (place T pool) 0) (refused 12) o)
+        go o true e q = (cc, rw e q)
         go o false e q = absurd (given_not_refused _ _ (sym q))
 
     -- where a word was accepted, the draw ends as the walk with its target does

@@ -148,7 +148,9 @@ fn drawn(store: &[u64], count: usize, pool: &[u64]) -> Result<(usize, usize), Re
     if total == 0 {
         return Err(Refusal::InsufficientNonZero);
     }
-    let (target, words): (u64, usize) = words::number_below(pool, total)?;
+    let Ok((target, words)) = words::number_below(pool, total) else {
+        return Err(Refusal::OutOfWords);
+    };
     let index = tree.descend(target)?;
     Ok((index, words))
 }

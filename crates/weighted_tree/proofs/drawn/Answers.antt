@@ -19,10 +19,10 @@ returns-then-total-eq0 c =
     let none = sym (total_is (goal.at.returns-then-total-eq0 c).After-total-total) ∙ c.if-total-eq0.true in
     drawn_refused _ _ _ InsufficientNonZero refl (c.in_ok-tree.ensures.2, eq-eqb _ _ none)
 
-pub returns-in_err-target : goal.returns-in_err-target
-returns-in_err-target c =
-    let is = total_is (goal.at.returns-in_err-target c).After-total-total in
-    let p = drawn_nothing _ _ _ c.in_ok-tree.ensures.2 _ is c.if-total-eq0.false _ c.in_err-target.ensures in search (rules, p)
+pub returns-in_default : goal.returns-in_default
+returns-in_default c =
+    let is = total_is (goal.at.returns-in_default c).After-total-total in
+    let p = drawn_nothing _ _ _ c.in_ok-tree.ensures.2 _ is c.if-total-eq0.false _ c.in_default.ensures in rw p.0 at p.1
 
 pub descend-requires : goal.descend-requires
 descend-requires c = cell_some c.in_ok-tree.tree.store.now c.in_ok-tree.tree.count 0 (omega (arith, c.total-total.ensures))
@@ -31,11 +31,11 @@ pub returns-in_err-index : goal.returns-in_err-index
 returns-in_err-index c =
     let tree = c.in_ok-tree.ensures in
     let is = total_is (goal.at.returns-in_err-index c).After-total-total in
-    let p = drawn_walk _ _ _ tree.2 _ is c.if-total-eq0.false _ _ c.in_ok-target.ensures (Err c.in_err-index.field-0.0) (rw (tree.0, tree.1) at c.in_err-index.ensures) in
+    let p = drawn_walk _ _ _ tree.2 _ is c.if-total-eq0.false _ _ c.in-Ok.ensures (Err c.in_err-index.field-0.0) (rw (tree.0, tree.1) at c.in_err-index.ensures) in
     search (rules, p)
 
 pub returns : goal.returns
 returns c =
     let tree = c.in_ok-tree.ensures in
     let is = total_is (goal.at.returns c).After-total-total in
-    drawn_walk _ _ _ tree.2 _ is c.if-total-eq0.false _ _ c.in_ok-target.ensures (Ok c.in_ok-index.index) (rw (tree.0, tree.1) at c.in_ok-index.ensures)
+    drawn_walk _ _ _ tree.2 _ is c.if-total-eq0.false _ _ c.in-Ok.ensures (Ok c.in_ok-index.index) (rw (tree.0, tree.1) at c.in_ok-index.ensures)

@@ -1,6 +1,6 @@
 -- Each refusal follows from the tests passed before and the one that failed; the weights are copied to the front of the store, where their sum
 -- is a u64, and gathered.
-use Rattle.std.proofs.Common.{◌≡◌, true, false, ◌<◌, ◌-◌, ◌^◌, ◌++◌, length, drop, length-append, arith, rules, sym, refl, ap, ◌∙◌}
+use Rattle.std.proofs.Common.{◌≡◌, true, false, ◌<◌, ◌-◌, ◌^◌, length, length-append, arith, rules, sym, refl, ap, ◌∙◌}
 use Rattle.std.specs.Prelude.{Some, None}
 use Rattle.counting.specs.Sum.{sum_of, exceeds_u64}
 use Rattle.counting.proofs.Sums.{exceeds_means, sum_means, fits_u64}
