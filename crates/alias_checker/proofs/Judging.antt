@@ -10,6 +10,7 @@ use borrow.Author.Tests.{le-ltb, eqb-true, ltb-true, leb-true, not-true, not-fal
 use lib.Dec.{ltb, leb, eqb}
 use Rattle.std.proofs.lemmas.Bool.{and_parts}
 use lib.ListN.{length, get_or, replicate}
+use Rattle.std.proofs.lemmas.List.{get_or-replicate, length-replicate}
 use Rattle.counting.specs.Sum.{sum_of, exceeds_u64}
 use Rattle.counting.specs.Below.{all_below, list_below}
 use Rattle.counting.proofs.Below.{all_same, all_at, some_false, length_below, get_d_below, list_below_lem}
@@ -26,6 +27,12 @@ use Rattle.alias_checker.proofs.Pairs.{pairs_closed, fair_counts, fair_draws}
 -- ---- the odds capped by the largest u64 are the odds
 pub capped_all : (odds : List ℕ) → ((i : ℕ) → get_or odds i 0 < 2 ^ 64) → list_below (length odds) (λ i. min (get_or odds i 0) 18446744073709551615) ≡ odds
 capped_all odds fits = sym (list_below_lem (length odds) (λ i. min (get_or odds i 0) 18446744073709551615) odds refl (λ i l. omega (arith, fits i)))
+
+-- and cells capped by 0 are zeros
+pub capped_none : (odds after : List ℕ) → after ≡ list_below (length odds) (λ i. min (get_or odds i 0) 0) → after ≡ replicate (length odds) 0
+capped_none odds after e =
+    let zero_at : (i : ℕ) → i < length odds → get_or (replicate (length odds) 0) i 0 ≡ min (get_or odds i 0) 0 = λ i l. rw (get_or-replicate {A = ℕ} (length odds) i 0 0 l) (omega arith) in
+    e ∙ sym (list_below_lem (length odds) (λ i. min (get_or odds i 0) 0) (replicate (length odds) 0) (length-replicate {A = ℕ} (length odds) 0) zero_at)
 
 -- ---- the judgement
 -- no slot of a fair table strays

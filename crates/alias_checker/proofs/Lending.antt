@@ -69,8 +69,8 @@ module _ (odds links : List ℕ) (S : ℕ) where
 
     module _ (o : get_or odds j 0 < S) where
       -- it lends to its link
-      pub lending_adds : get_or links j 0 < length odds → get_or now (get_or links j 0) 0 + (S - get_or odds j 0) < 2 ^ 64 → Lending found (set now (get_or links j 0) (get_or now (get_or links j 0) 0 + (S - get_or odds j 0))) (j + 1)
-      lending_adds near small =
+      pub lending_adds : (v : ℕ) → v ≡ get_or now (get_or links j 0) 0 + (S - get_or odds j 0) → v < 2 ^ 64 → get_or links j 0 < length odds → Lending found (set now (get_or links j 0) v) (j + 1)
+      lending_adds v is small near =
           record {
             inside = omega arith;
             long = simp length-set k.long;
@@ -79,25 +79,24 @@ module _ (odds links : List ℕ) (S : ℕ) where
             fits = λ i. fit i (eqb (get_or links j 0) i) refl;
           }
         where
-          at : (i : ℕ) → i < length odds → (b : Bool) → eqb (get_or links j 0) i ≡ b → get_or (set now (get_or links j 0) (get_or now (get_or links j 0) 0 + (S - get_or odds j 0))) i 0 ≡ get_or found i 0 + lent_below odds links S (j + 1) i
+          at : (i : ℕ) → i < length odds → (b : Bool) → eqb (get_or links j 0) i ≡ b → get_or (set now (get_or links j 0) v) i 0 ≡ get_or found i 0 + lent_below odds links S (j + 1) i
           at i l true e =
               let same = eqb-true (get_or links j 0) i e in
-              let stored : get_or (set now (get_or links j 0) (get_or now (get_or links j 0) 0 + (S - get_or odds j 0))) i 0 ≡ get_or now i 0 + (S - get_or odds j 0) =
-              rw same (get_or-set_same now i (get_or now i 0 + (S - get_or odds j 0)) 0 (omega (arith, k.long))) in
+              let stored : get_or (set now (get_or links j 0) v) i 0 ≡ v = rw same (get_or-set_same now i v 0 (omega (arith, k.long))) in
+              let held : v ≡ get_or now i 0 + (S - get_or odds j 0) = rw (← same) is in
               omega (arith, k.cells i l, lent_step i j, lends_here i j o same)
           at i l false e =
               let apart = eqb-false (get_or links j 0) i e in
-              let kept = get_or-set_other now (get_or links j 0) i (get_or now (get_or links j 0) 0 + (S - get_or odds j 0)) 0 (λ q. apart (sym q)) in
+              let kept = get_or-set_other now (get_or links j 0) i v 0 (λ q. apart (sym q)) in
               omega (arith, k.cells i l, lent_step i j, lends_elsewhere i j o apart)
 
-          fit : (i : ℕ) → (b : Bool) → eqb (get_or links j 0) i ≡ b → get_or (set now (get_or links j 0) (get_or now (get_or links j 0) 0 + (S - get_or odds j 0))) i 0 < 2 ^ 64
+          fit : (i : ℕ) → (b : Bool) → eqb (get_or links j 0) i ≡ b → get_or (set now (get_or links j 0) v) i 0 < 2 ^ 64
           fit i true e =
               let same = eqb-true (get_or links j 0) i e in
-              let stored : get_or (set now (get_or links j 0) (get_or now (get_or links j 0) 0 + (S - get_or odds j 0))) (get_or links j 0) 0 ≡ get_or now (get_or links j 0) 0 + (S - get_or odds j 0) =
-              get_or-set_same now (get_or links j 0) (get_or now (get_or links j 0) 0 + (S - get_or odds j 0)) 0 (omega (arith, k.long)) in
+              let stored : get_or (set now (get_or links j 0) v) (get_or links j 0) 0 ≡ v = get_or-set_same now (get_or links j 0) v 0 (omega (arith, k.long)) in
               rw (← same) (omega arith)
           fit i false e =
-              omega (arith, k.fits i, get_or-set_other now (get_or links j 0) i (get_or now (get_or links j 0) 0 + (S - get_or odds j 0)) 0 (λ q. eqb-false (get_or links j 0) i e (sym q)))
+              omega (arith, k.fits i, get_or-set_other now (get_or links j 0) i v 0 (λ q. eqb-false (get_or links j 0) i e (sym q)))
 
       -- its link is no slot's
       pub lending_strays : length odds ≤ get_or links j 0 → false ≡ not (fails odds links S (λ i. get_or found i 0))

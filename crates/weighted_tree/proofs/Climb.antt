@@ -137,9 +137,9 @@ module _ (rise fall cell : ℕ) (before s : Store) (i : ℕ) (w : Changing rise 
     change_can = let can = w.can in (rw e at can).0
 
     -- what was changed is no parent of what is left
-    pub change_more : Changing rise fall cell before (set s x (get_or s x 0 + rise - fall)) j
+    pub change_more : (v : ℕ) → v ≡ get_or s x 0 + rise - fall → Changing rise fall cell before (set s x v) j
     unfolding Each change_all
-    change_more =
+    change_more v is =
         let up = climbs i x j e in
         let can = w.can in
         let same = w.same in
@@ -147,15 +147,15 @@ module _ (rise fall cell : ℕ) (before s : Store) (i : ℕ) (w : Changing rise 
         record {
           inside = simp length-set (omega (arith, w.inside));
           can = rw up.2 (each_set (CanChange rise fall) s x _ (climb x) (omega arith) rest);
-          same = rw e at same;
+          same = rw is (rw e at same);
         }
 
-    -- with cell 0 all is changed
+    -- with cell 0 all is changed, so a return just after it is right
     pub change_last : x < 1 → set s x (get_or s x 0 + rise - fall) ≡ change_all before rise fall (parents cell)
     unfolding change_all
     change_last h =
         let up = climbs i x j e in
-        let same = change_more.same in sym (rw (up.2 ∙ parents_top x (omega arith)) at same)
+        let same = (change_more _ refl).same in sym (rw (up.2 ∙ parents_top x (omega arith)) at same)
 
 -- ---- along sound parents the cells only grow
 pub parity : (i : ℕ) → (i ≡ 2 * (i / 2)) ⊎ (i ≡ 2 * (i / 2) + 1)

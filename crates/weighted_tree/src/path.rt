@@ -21,7 +21,7 @@ impl Iterator for Parents {
 }
 
 // Adds a rise to each parent of a cell, up to cell 0, and takes a fall from it.
-#[tactic(auto, using(crate::proofs::Climb::change_last))]
+#[tactic(auto, using(crate::proofs::Climb::change_room, crate::proofs::Climb::change_can, crate::proofs::Climb::change_end, crate::proofs::Climb::change_last))]
 pub(crate) fn change_parents(store: &mut [u64], index: usize, rise: u64, fall: u64)
     requires { (index ≤ length store.old) × Each (CanChange rise fall) store.old (parents index) }
     ensures { store.new ≡ change_all store.old rise fall (parents index) }

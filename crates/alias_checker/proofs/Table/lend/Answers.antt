@@ -43,8 +43,8 @@ loop-own-preserved-then-own-self c =
     let k = c.loop-own.invariant in
     let t = turn (goal.at.loop-own-preserved-then-own-self c).In-Some in
     let cell = rw t.2 at (in_cells _ _ _ c.in_ok-cell.ensures.lookup.0 c.in_ok-cell.ensures.lookup.1) in
-    let sum = rw t.1 at c.in_ok-cells.ensures in
-    rw (sum.1, t.2, cell.1, length_push) (lending_adds _ _ _ _ _ _ k t.0 (omega (arith, t.1)) (omega (arith, cell.0, k.long)) (rw cell.1 at sum.0))
+    rw (t.2, length_push)
+    (lending_adds _ _ _ _ _ _ k t.0 (omega (arith, t.1)) _ (omega (arith, t.1, cell.1, c.in_ok-cells.ensures)) (omega (arith, c.in_ok-cells.ensures)) (omega (arith, cell.0, k.long)))
 
 pub loop-own-preserved : goal.loop-own-preserved
 loop-own-preserved c =
