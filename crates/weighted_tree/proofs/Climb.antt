@@ -150,12 +150,11 @@ module _ (rise fall cell : ℕ) (before s : Store) (i : ℕ) (w : Changing rise 
           same = rw is (rw e at same);
         }
 
-    -- with cell 0 all is changed, so a return just after it is right
-    pub change_last : x < 1 → set s x (get_or s x 0 + rise - fall) ≡ change_all before rise fall (parents cell)
-    unfolding change_all
-    change_last h =
-        let up = climbs i x j e in
-        let same = (change_more _ refl).same in sym (rw (up.2 ∙ parents_top x (omega arith)) at same)
+-- with cell 0 all is changed, so a return just after it is right
+pub change_last : (rise fall cell : ℕ) (before s : Store) (i : ℕ) → Changing rise fall cell before s i → (x j : ℕ) → parents i ≡ x ∷ parents j → x < 1 → set s x (get_or s x 0 + rise - fall) ≡ change_all before rise fall (parents cell)
+change_last rise fall cell before s i w x j e h =
+    let up = climbs i x j e in
+    change_end rise fall cell before _ j (change_more rise fall cell before s i w x j e _ refl) (up.2 ∙ parents_top x (omega arith))
 
 -- ---- along sound parents the cells only grow
 pub parity : (i : ℕ) → (i ≡ 2 * (i / 2)) ⊎ (i ≡ 2 * (i / 2) + 1)

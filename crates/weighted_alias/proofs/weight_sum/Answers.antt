@@ -1,5 +1,5 @@
 -- No weight so far is too heavy, so their sum is a u64.
-use Rattle.std.proofs.Common.{rules}
+use Rattle.std.proofs.Common.{arith, rules}
 use Rattle.weighted_alias.proofs.Scales.{summing_begins, summing_goes_on, sum_fits, sums_heavy, sums_nothing, sums_something, no_weights}
 use Rattle.weighted_alias.proofs.weight_sum.Goals as goal
 
@@ -15,7 +15,7 @@ returns-then-max_weight_size-weight c =
 
 pub overflow_add-sum : goal.overflow_add-sum
 overflow_add-sum c =
-    record { fits = sum_fits _ _ _ (summing_goes_on _ _ _ c.loop-weight.invariant c.loop-weight-test.true c.if-max_weight_size-weight.false) }
+    record { fits = omega (arith, sum_fits _ _ _ (summing_goes_on _ _ _ c.loop-weight.invariant c.loop-weight-test.true c.if-max_weight_size-weight.false)) }
 
 pub loop-weight-preserved : goal.loop-weight-preserved
 loop-weight-preserved c = summing_goes_on _ _ _ c.loop-weight.invariant c.loop-weight-test.true c.if-max_weight_size-weight.false
